@@ -1,0 +1,8 @@
+-- What belongs to no one function: laws on plain values, then the promises of specs/Promises.antt.
+pub mod EveryByte
+pub mod Filling
+pub mod SboxValues
+pub mod Schedule
+pub mod InverseIsInverse
+pub mod KeysAreBytes
+pub mod HashesFit

@@ -1,0 +1,5 @@
+pub mod Field
+pub mod Fips197
+pub mod Ccr
+pub mod TreeHash
+pub mod Promises
