@@ -63,18 +63,33 @@ fn heights() {
 // Known sums: a word whose bit 64 must reach the low half; then no carry, and a carry alone.
 fn shifts() {
     let both = Word { lo: 1, hi: 1 };
-    line(b"converted after the shift (hi 1, lo 1)  ", both.convert_shifted());
+    line(
+        b"converted after the shift (hi 1, lo 1)  ",
+        both.convert_shifted(),
+    );
     let low = Word { lo: 1, hi: 0 };
-    line(b"converted after the shift (hi 0, lo 1)  ", low.convert_shifted());
+    line(
+        b"converted after the shift (hi 0, lo 1)  ",
+        low.convert_shifted(),
+    );
     let high = Word { lo: 0, hi: 1 };
-    line(b"converted after the shift (hi 1, lo 0)  ", high.convert_shifted());
+    line(
+        b"converted after the shift (hi 1, lo 0)  ",
+        high.convert_shifted(),
+    );
     let full = Word {
         lo: 0xffff_ffff_ffff_ffff,
         hi: 0xffff_ffff_ffff_ffff,
     };
     word_line(b"all bits, shifted   ", full.shr1());
     word_line(b"all bits, cleared   ", full.cleared());
-    word_line(b"all bits, converted ", Word { lo: full.convert(), hi: 0 });
+    word_line(
+        b"all bits, converted ",
+        Word {
+            lo: full.convert(),
+            hi: 0,
+        },
+    );
     let none = Word { lo: 0, hi: 0 };
     word_line(b"no bits, marked     ", none.marked());
     word_line(b"no bits or 1        ", none.or_bit(true));
@@ -98,7 +113,10 @@ fn bits() {
 
 // Sums modulo 2^64.
 fn wrapped() {
-    line(b"largest plus 2      ", sums::plus(0xffff_ffff_ffff_ffff, 2));
+    line(
+        b"largest plus 2      ",
+        sums::plus(0xffff_ffff_ffff_ffff, 2),
+    );
     line(b"5 minus 7           ", sums::minus(5, 7));
     line(b"negated 1           ", sums::negated(1));
     line(b"negated 0           ", sums::negated(0));
@@ -108,16 +126,35 @@ fn wrapped() {
 fn fields() {
     let mut b = [0x11u8; 20];
     let s: &mut [u8] = &mut b;
-    line(b"store at 4 answers  ", bytes::put_word(s, 4, Word { lo: 0x0706_0504_0302_0100, hi: 0x0f0e_0d0c_0b0a_0908 }));
-    line(b"store at 5 answers  ", bytes::put_word(s, 5, Word { lo: 0, hi: 0 }));
-    line(b"store far off       ", bytes::put_u64(s, 0xffff_ffff_ffff_fffc, 0));
+    line(
+        b"store at 4 answers  ",
+        bytes::put_word(
+            s,
+            4,
+            Word {
+                lo: 0x0706_0504_0302_0100,
+                hi: 0x0f0e_0d0c_0b0a_0908,
+            },
+        ),
+    );
+    line(
+        b"store at 5 answers  ",
+        bytes::put_word(s, 5, Word { lo: 0, hi: 0 }),
+    );
+    line(
+        b"store far off       ",
+        bytes::put_u64(s, 0xffff_ffff_ffff_fffc, 0),
+    );
     line(b"four bytes at 2     ", bytes::get_u32(s, 2));
     line(b"eight bytes at 4    ", bytes::get_u64(s, 4));
     line(b"eight bytes at 15   ", bytes::get_u64(s, 15));
     line(b"eight bytes at 20   ", bytes::get_u64(s, 20));
     word_line(b"word at 4           ", bytes::get_word(s, 4));
     word_line(b"word at 10          ", bytes::get_word(s, 10));
-    word_line(b"word far off        ", bytes::get_word(s, 0xffff_ffff_ffff_fffc));
+    word_line(
+        b"word far off        ",
+        bytes::get_word(s, 0xffff_ffff_ffff_fffc),
+    );
 }
 
 // Zeroing two of three cells, and more cells than there are.
