@@ -14,7 +14,7 @@ use Rattle.words.specs.declared.Word.{Word}
 use Rattle.words.specs.Word.{_⊕_, Fits}
 use Rattle.words.specs.Bytes.{leNum, field, wordAt, wordBytes}
 use Rattle.words.proofs.WordLaws.{fits-⊕}
-use Rattle.cipher.specs.Fips197.{sbox, subBytes, shiftRows, addRoundKey, rounds, cipher, keyExpansion}
+use Rattle.cipher.specs.Fips197.{sbox, subBytes, shiftRows, addRoundKey, rounds, lastRound, cipher, keyExpansion}
 use Rattle.cipher.specs.Ccr.{sigma, pi, hashCcr}
 use Rattle.cipher.specs.TreeHash.{fixedKey, mask, hashBy, treeHash}
 use Rattle.cipher.specs.Promises.{AreBytes, HashesFit}
@@ -28,7 +28,7 @@ unfolding shiftRows subBytes
 shifted t = bytes-tab _ 16 (λ i. bytes-tab _ 16 (λ j. sbox-lt (getD t j 0)) ((i + 4 * (i % 4)) % 16))
 
 bytes-cipher : (w s : List ℕ) → AreBytes w → AreBytes (cipher w s)
-unfolding cipher addRoundKey
+unfolding cipher lastRound addRoundKey
 bytes-cipher w s p = bytes-tab _ 16 (λ i. xor-lt 8 _ _ (shifted (rounds w (addRoundKey w 0 s) 9) i) (p (16 * 10 + i)))
 
 -- ---- numbers

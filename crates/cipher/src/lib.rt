@@ -10,6 +10,7 @@ ghost use Rattle.cipher.specs.TreeHash as tree;
 use words::Word;
 
 mod ccr;
+mod columns;
 mod expand;
 mod rounds;
 mod sbox;
@@ -34,7 +35,7 @@ impl Aes {
     {
         let t = sbox::values();
         let w = self.keys;
-        rounds::encrypt_in(&t, &w, block)
+        columns::to_bytes(rounds::encrypt_in(&t, &w, columns::from_bytes(block)))
     }
 
     // AES on the word's 16 little-endian bytes, read back the same way.

@@ -1,132 +1,111 @@
-// The cipher of FIPS 197, 5.1: the steps of a round, and one block under a key schedule that is lent. Meanings:
-// specs/Fips197.antt.
+// The cipher of FIPS 197, 5.1, on a block as four columns, under a key schedule that is lent. SubBytes and ShiftRows are one
+// step: byte r of a new column is a substituted byte of row r, r columns to the right. Meanings: specs/Fips197.antt.
 ghost use mathlib.Core.Path.{_≡_};
-ghost use Prim.Native.Nat.{_≤_};
+ghost use Prim.Native.Nat.{_+_, _≤_};
+ghost use lib.ListN.{getD};
+ghost use Rattle.words.specs.Bytes.{leBytes};
 ghost use Rattle.words.specs.Cells.{tab};
-ghost use Rattle.cipher.specs.Field as field;
-ghost use Rattle.cipher.specs.Fips197.{sbox, shiftRows, mixed, mixColumn, mixColumns, addRoundKey};
+ghost use Rattle.cipher.specs.Fips197.{sbox, subWord, xorWord, mixColumn};
 ghost use Rattle.cipher.specs.Fips197 as fips;
+ghost use Rattle.cipher.specs.Columns.{blockOf, diagonal, keyAt};
+use crate::columns;
+use crate::columns::Columns;
 use crate::sbox;
 
-// A byte times x.
-fn xtime(b: u8) -> u8
-    ensures { λ r. ⌜ r ≡ field.xtime b ⌝ }
+// The four bytes of the key schedule w from `at` on.
+fn key_column(w: &[u8; 176], at: usize) -> u32
+    requires { ⌜ at + 4 ≤ 176 ⌝ }
+    ensures { λ r. ⌜ leBytes 4 r ≡ keyAt (now (w .entry)) at ⌝ }
 {
-    (b % 128 * 2) ^ (b / 128 * 0x1b)
+    columns::column(w[at], w[at + 1], w[at + 2], w[at + 3])
 }
 
-// ShiftRows.
-fn shift_rows(s: [u8; 16]) -> [u8; 16]
-    ensures { λ r. ⌜ r ≡ shiftRows s ⌝ }
+// A column of SubBytes and ShiftRows: row 0 of a, row 1 of b, row 2 of c, row 3 of d.
+fn sub_column(t: &[u8; 256], a: u32, b: u32, c: u32, d: u32) -> u32
+    requires { ⌜ now t ≡ tab sbox 256 ⌝ }
+    ensures { λ r. ⌜ leBytes 4 r ≡ subWord (diagonal a b c d) ⌝ }
 {
-    [
-        s[0],
-        s[5],
-        s[10],
-        s[15],
-        s[4],
-        s[9],
-        s[14],
-        s[3],
-        s[8],
-        s[13],
-        s[2],
-        s[7],
-        s[12],
-        s[1],
-        s[6],
-        s[11],
-    ]
+    columns::column(
+        sbox::sub_byte(t, (a % 256) as u8),
+        sbox::sub_byte(t, (b / 256 % 256) as u8),
+        sbox::sub_byte(t, (c / 256 / 256 % 256) as u8),
+        sbox::sub_byte(t, (d / 256 / 256 / 256 % 256) as u8),
+    )
 }
 
-// A byte of a mixed column.
-fn mix(a: u8, b: u8, c: u8, d: u8) -> u8
-    ensures { λ r. ⌜ r ≡ mixed a b c d ⌝ }
+// A column of a round, whose key bytes stand from `at` on.
+fn round_column(t: &[u8; 256], w: &[u8; 176], at: usize, a: u32, b: u32, c: u32, d: u32) -> u32
+    requires { ⌜ (now t ≡ tab sbox 256) × (at + 4 ≤ 176) ⌝ }
+    ensures { λ r. ⌜ leBytes 4 r ≡ xorWord (mixColumn (subWord (diagonal a b c d))) (keyAt (now (w .entry)) at) ⌝ }
 {
-    xtime(a) ^ (xtime(b) ^ b) ^ c ^ d
+    columns::mix_column(sub_column(t, a, b, c, d)) ^ key_column(w, at)
 }
 
-fn mix_column(a: u8, b: u8, c: u8, d: u8) -> [u8; 4]
-    ensures { λ r. ⌜ r ≡ mixColumn a b c d ⌝ }
+// A column of the last round, which mixes no columns.
+fn last_column(t: &[u8; 256], w: &[u8; 176], at: usize, a: u32, b: u32, c: u32, d: u32) -> u32
+    requires { ⌜ (now t ≡ tab sbox 256) × (at + 4 ≤ 176) ⌝ }
+    ensures { λ r. ⌜ leBytes 4 r ≡ xorWord (subWord (diagonal a b c d)) (keyAt (now (w .entry)) at) ⌝ }
 {
-    [
-        mix(a, b, c, d),
-        mix(b, c, d, a),
-        mix(c, d, a, b),
-        mix(d, a, b, c),
-    ]
+    sub_column(t, a, b, c, d) ^ key_column(w, at)
 }
 
-// MixColumns.
-fn mix_columns(s: [u8; 16]) -> [u8; 16]
-    ensures { λ r. ⌜ r ≡ mixColumns s ⌝ }
+// Round key 0 is added.
+fn first(w: &[u8; 176], s: Columns) -> Columns
+    ensures { λ r. ⌜ blockOf r ≡ fips.addRoundKey (now (w .entry)) 0 (blockOf s) ⌝ }
 {
-    let a = mix_column(s[0], s[1], s[2], s[3]);
-    let b = mix_column(s[4], s[5], s[6], s[7]);
-    let c = mix_column(s[8], s[9], s[10], s[11]);
-    let d = mix_column(s[12], s[13], s[14], s[15]);
-    [
-        a[0],
-        a[1],
-        a[2],
-        a[3],
-        b[0],
-        b[1],
-        b[2],
-        b[3],
-        c[0],
-        c[1],
-        c[2],
-        c[3],
-        d[0],
-        d[1],
-        d[2],
-        d[3],
-    ]
-}
-
-// AddRoundKey, with the 16 bytes of the key schedule w for round r.
-fn add_round_key(w: &[u8; 176], r: usize, s: [u8; 16]) -> [u8; 16]
-    requires { ⌜ r ≤ 10 ⌝ }
-    ensures { λ t. ⌜ t ≡ addRoundKey (now (w .entry)) r s ⌝ }
-{
-    let mut out = [0u8; 16];
-    let mut i: usize = 0;
-    while i < 16 {
-        out[i] = s[i] ^ w[16 * r + i];
-        i += 1;
+    Columns {
+        a: s.a ^ key_column(w, 0),
+        b: s.b ^ key_column(w, 4),
+        c: s.c ^ key_column(w, 8),
+        d: s.d ^ key_column(w, 12),
     }
-    out
 }
 
-// A round.
-fn round(t: &[u8; 256], w: &[u8; 176], r: usize, s: [u8; 16]) -> [u8; 16]
-    requires { ⌜ (now t ≡ tab sbox 256) × (r ≤ 10) ⌝ }
-    ensures { λ n. ⌜ n ≡ fips.round (now (w .entry)) r s ⌝ }
+// Round n.
+fn round(t: &[u8; 256], w: &[u8; 176], n: usize, s: Columns) -> Columns
+    requires { ⌜ (now t ≡ tab sbox 256) × (n ≤ 10) ⌝ }
+    ensures { λ r. ⌜ blockOf r ≡ fips.round (now (w .entry)) n (blockOf s) ⌝ }
 {
-    add_round_key(w, r, mix_columns(shift_rows(sbox::sub_bytes(t, s))))
+    let at = 16 * n;
+    Columns {
+        a: round_column(t, w, at, s.a, s.b, s.c, s.d),
+        b: round_column(t, w, at + 4, s.b, s.c, s.d, s.a),
+        c: round_column(t, w, at + 8, s.c, s.d, s.a, s.b),
+        d: round_column(t, w, at + 12, s.d, s.a, s.b, s.c),
+    }
 }
 
 // The rounds 1 to 9.
-fn rounds(t: &[u8; 256], w: &[u8; 176], block: [u8; 16]) -> [u8; 16]
+fn rounds(t: &[u8; 256], w: &[u8; 176], block: Columns) -> Columns
     requires { ⌜ now t ≡ tab sbox 256 ⌝ }
-    ensures { λ r. ⌜ r ≡ fips.rounds (now (w .entry)) block 9 ⌝ }
+    ensures { λ r. ⌜ blockOf r ≡ fips.rounds (now (w .entry)) (blockOf block) 9 ⌝ }
 {
     let mut s = block;
     let mut n: usize = 0;
     while n < 9 {
         n += 1;
-        let next = round(t, w, n, s);
-        s = next;
+        s = round(t, w, n, s);
     }
     s
 }
 
-// One block under the key schedule w, by the table t.
-pub(crate) fn encrypt_in(t: &[u8; 256], w: &[u8; 176], block: [u8; 16]) -> [u8; 16]
+// Round 10.
+fn last(t: &[u8; 256], w: &[u8; 176], s: Columns) -> Columns
     requires { ⌜ now t ≡ tab sbox 256 ⌝ }
-    ensures { λ r. ⌜ r ≡ fips.cipher (now (w .entry)) block ⌝ }
+    ensures { λ r. ⌜ blockOf r ≡ fips.lastRound (now (w .entry)) (blockOf s) ⌝ }
 {
-    let s = rounds(t, w, add_round_key(w, 0, block));
-    add_round_key(w, 10, shift_rows(sbox::sub_bytes(t, s)))
+    Columns {
+        a: last_column(t, w, 160, s.a, s.b, s.c, s.d),
+        b: last_column(t, w, 164, s.b, s.c, s.d, s.a),
+        c: last_column(t, w, 168, s.c, s.d, s.a, s.b),
+        d: last_column(t, w, 172, s.d, s.a, s.b, s.c),
+    }
+}
+
+// One block under the key schedule w, by the table t.
+pub(crate) fn encrypt_in(t: &[u8; 256], w: &[u8; 176], block: Columns) -> Columns
+    requires { ⌜ now t ≡ tab sbox 256 ⌝ }
+    ensures { λ r. ⌜ blockOf r ≡ fips.cipher (now (w .entry)) (blockOf block) ⌝ }
+{
+    last(t, w, rounds(t, w, first(w, block)))
 }

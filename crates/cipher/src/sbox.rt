@@ -2,7 +2,7 @@
 // The table is copied once where a call begins and lent from there: a constant that is indexed is built anew at each use.
 ghost use mathlib.Core.Path.{_≡_};
 ghost use Rattle.words.specs.Cells.{tab};
-ghost use Rattle.cipher.specs.Fips197.{sbox, subBytes, subWord};
+ghost use Rattle.cipher.specs.Fips197.{sbox, subWord};
 
 // The 256 substitution values, at each byte the affine step of its inverse in the field.
 const SBOX: [u8; 256] = [
@@ -272,25 +272,11 @@ pub(crate) fn values() -> [u8; 256]
 }
 
 // One byte substituted, by the table t.
-fn sub_byte(t: &[u8; 256], x: u8) -> u8
+pub(crate) fn sub_byte(t: &[u8; 256], x: u8) -> u8
     requires { ⌜ now t ≡ tab sbox 256 ⌝ }
     ensures { λ r. ⌜ r ≡ sbox x ⌝ }
 {
     t[x as usize]
-}
-
-// SubBytes: each byte of a block substituted.
-pub(crate) fn sub_bytes(t: &[u8; 256], s: [u8; 16]) -> [u8; 16]
-    requires { ⌜ now t ≡ tab sbox 256 ⌝ }
-    ensures { λ r. ⌜ r ≡ subBytes s ⌝ }
-{
-    let mut out = [0u8; 16];
-    let mut i: usize = 0;
-    while i < 16 {
-        out[i] = sub_byte(t, s[i]);
-        i += 1;
-    }
-    out
 }
 
 // SubWord: each byte of a word substituted.
