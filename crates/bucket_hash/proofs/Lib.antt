@@ -1,0 +1,4 @@
+-- The promises of specs/Promises.antt.
+pub mod BucketsBelow
+pub mod HashesKeyed
+pub mod Determined

@@ -1,0 +1,2 @@
+pub mod BucketHash
+pub mod Promises

@@ -1,0 +1,20 @@
+-- What belongs to no one function: laws on plain values, then the promises of specs/Promises.antt and the known sums.
+pub mod BucketLaws
+pub mod WalkLaws
+pub mod ShareLaws
+pub mod SliceLaws
+pub mod PointLaws
+pub mod CallLaws
+pub mod PutLaws
+pub mod CountLaws
+pub mod PassLaws
+pub mod NoteLaws
+pub mod LayLaws
+pub mod WalkEnds
+pub mod PlacementHolds
+pub mod EvictionsCounted
+pub mod SizesSum
+pub mod PositionsDiffer
+pub mod SharesGather
+pub mod Determined
+pub mod KnownSums

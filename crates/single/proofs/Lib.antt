@@ -1,0 +1,24 @@
+-- What belongs to no one function: laws on plain values, then the promises of specs/Promises.antt and the known sums.
+pub mod BitLaws
+pub mod Descent
+pub mod SeedsDiffer
+pub mod SharesSum
+pub mod MadeFits
+pub mod RecordLaws
+pub mod RecordReadsBack
+pub mod ImageLaws
+pub mod ImageReadsBack
+pub mod KeysHoldRecords
+pub mod CallLaws
+pub mod CallsDetermined
+pub mod TableSums
+pub mod PairsAdd
+pub mod AddingCounts
+pub mod SingleDemand3
+pub mod MadeIsTaken
+pub mod KnownSums
+pub mod NodeLaws
+pub mod KeyLaws
+pub mod Layers
+pub mod MakeLaws
+pub mod BareLaws

@@ -1,0 +1,12 @@
+-- `single::tree::moved` meets its contract: its calls put the rule of a level together, from the hash that is given. Assumes nothing.
+use borrow.Author.Needs.{needs}
+use Rattle.single.proofs.tree.moved.Statement.{statement}
+use Rattle.single.proofs.tree.moved.Tie as tie
+
+returns : tie.Need-returns
+returns c = cc
+
+pub moved-spec : {M : Type 1} → statement M
+moved-spec =
+    tie.close
+    (tie.spec (λ c κs. search needs) (λ c κs. search needs) (λ c κs. search needs) (λ c κs. search needs) (λ c κs. search needs) returns)

@@ -1,0 +1,20 @@
+-- `single::tree::share_of` meets its contract: the leaf, its value, and the sign of the party. Assumes nothing.
+use Rattle.single.specs.Keys.{worth}
+use borrow.Author.Needs.{needs}
+use Rattle.single.proofs.tree.share_of.Statement.{statement}
+use Rattle.single.proofs.tree.share_of.Tie as tie
+
+returns : tie.Need-returns
+unfolding worth
+returns c = cc
+
+pub share-of-spec : {M : Type 1} → statement M
+share-of-spec =
+    tie.close
+    (tie.spec
+    (λ c κs. search needs)
+    (λ c κs. search needs)
+    (λ c κs. search needs)
+    (λ c κs. search needs)
+    (λ c κs. search needs)
+    returns)

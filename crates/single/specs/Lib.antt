@@ -1,0 +1,14 @@
+pub mod Rules
+pub mod Keys
+pub mod Nodes
+pub mod Making
+pub mod Record
+pub mod Pairs
+pub mod Image
+pub mod Tables
+pub mod Promises
+pub mod ReadBack
+pub mod Calls
+pub mod Bare
+pub mod Demand
+pub mod KnownSums
