@@ -3,13 +3,13 @@
 ghost use mathlib.Core.Path.{_≡_};
 ghost use Rattle.cipher.specs.TreeHash.{hashBy};
 ghost use Rattle.single.specs.Bare as spec;
-use cipher::TreeHash;
-use words::bytes;
-use words::refusals;
 use crate::calls::Share;
 use crate::domain;
 use crate::record;
 use crate::tree;
+use cipher::TreeHash;
+use words::bytes;
+use words::refusals;
 
 // The refusal of reading one cell; 0 for none.
 fn share_number(bare: &[u8], index: u64) -> u64

@@ -2,11 +2,11 @@
 ghost use mathlib.Core.Path.{_≡_};
 ghost use Rattle.cipher.specs.TreeHash.{hashBy};
 ghost use Rattle.single.specs.Pairs.{keysFor};
-use cipher::TreeHash;
-use words::Word;
 use crate::SingleKey;
 use crate::make::make_pair;
 use crate::record::no_key;
+use cipher::TreeHash;
+use words::Word;
 
 // What making a pair of keys answers: 0 and both parties' keys, or Domain and keys with no bit set.
 pub struct KeyPair {
