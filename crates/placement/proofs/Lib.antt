@@ -10,6 +10,7 @@ pub mod CountLaws
 pub mod PassLaws
 pub mod NoteLaws
 pub mod LayLaws
+pub mod GatherLaws
 pub mod WalkEnds
 pub mod PlacementHolds
 pub mod EvictionsCounted

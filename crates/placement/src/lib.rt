@@ -12,6 +12,7 @@ use words::cells as slices;
 use words::refusals;
 
 pub mod cells;
+pub mod gather;
 mod held;
 pub mod points;
 mod walk;
