@@ -2,7 +2,7 @@
 use mathlib.Core.Path.{_∙_}
 use borrow.Author.Needs.{needs}
 use Rattle.words.specs.Cells.{tab}
-use Rattle.cipher.proofs.Filling.{tab-self}
+use Rattle.cipher.proofs.Schedule.{tab-self}
 use Rattle.cipher.proofs.BlockSteps.{joined-columns}
 use Rattle.cipher.proofs.columns.from_bytes.Statement.{statement}
 use Rattle.cipher.proofs.columns.from_bytes.Tie as tie
