@@ -48,7 +48,11 @@ pub extern "C" fn morgnet_single_evaluate_at(key: &[u8], index: u64, share: &mut
 
 // `single::calls::evaluate_domain`.
 #[no_mangle]
-pub extern "C" fn morgnet_single_evaluate_domain(key: &[u8], scratch: &mut [u64], out: &mut [u64]) -> u64
+pub extern "C" fn morgnet_single_evaluate_domain(
+    key: &[u8],
+    scratch: &mut [u64],
+    out: &mut [u64],
+) -> u64
     ensures { λ r. ⌜ single.evaluating r (now (scratch .exit)) (now (out .exit))
         ≡ single.evaluateDomain treeHash (now (key .entry)) (now (scratch .entry)) (now (out .entry)) ⌝ }
 {
