@@ -1,0 +1,75 @@
+-- Laws of what stands in a list, of what is wanted, and of the account: each definition by its tests.
+--     part       part-none, part-span
+--     field      field-there, field-none
+--     wanted     getD-inside, wanted-field, wanted-filled
+--     account    differing-first, differing-again, valued-same, valued-other
+-- Assumes nothing.
+use mathlib.Core.Path.{_≡_, refl}
+use mathlib.Core.Bool.{true, false}
+use mathlib.Core.List.{List, [], _∷_}
+use Prim.Native.Nat.{ℕ, zero, suc, _+_, _*_, _-_, _/_, _≤_, _<_}
+use native.Mathlib.Nat.{le-of-suc-le-suc}
+use native.Mathlib.Omega.{arith}
+use borrow.Author.Tests.{lt-ltb, le-ltb, le-leb, lt-leb, eq-eqb, ne-eqb}
+use lib.ListN.{length, getD, take, drop}
+use Rattle.words.specs.Bytes as bytes
+use Rattle.words.specs.Ring.{add}
+use Rattle.replay.specs.declared.Account.{Account}
+use Rattle.replay.specs.Lists.{part, field, wantedCell, differing, valued}
+
+-- ---- part
+
+pub part-none : (l : List ℕ) (a n : ℕ) → length l < a + n → [] ≡ part l a n
+unfolding part
+part-none l a n h = rw (lt-leb (a + n) (length l) h)
+
+pub part-span : (l : List ℕ) (a n : ℕ) → a + n ≤ length l → take (a + n - a) (drop a l) ≡ part l a n
+unfolding part
+part-span l a n h =
+    let e : a + n - a ≡ n = omega arith in
+    rw (e, le-leb (a + n) (length l) h)
+
+-- ---- field
+
+pub field-there : (f : List ℕ) (i : ℕ) → i < length f / 8 → bytes.field 8 f (8 * i) ≡ field f i
+unfolding field
+field-there f i h = rw (lt-ltb i (length f / 8) h)
+
+pub field-none : (f : List ℕ) (i : ℕ) → length f / 8 ≤ i → 0 ≡ field f i
+unfolding field
+field-none f i h = rw (le-ltb i (length f / 8) h)
+
+-- ---- what is wanted
+
+-- within a list the default is never taken
+pub getD-inside : (l : List ℕ) (i d e : ℕ) → i < length l → getD l i d ≡ getD l i e
+getD-inside [] i d e h = let z : ⊥ = omega arith in absurd z
+getD-inside (x ∷ xs) zero d e h = refl
+getD-inside (x ∷ xs) (suc i) d e h = getD-inside xs i d e (le-of-suc-le-suc h)
+
+pub wanted-field : (f : List ℕ) (n base i : ℕ) → i < n → add 64 base (field f i) ≡ wantedCell f n base i
+unfolding wantedCell
+wanted-field f n base i h = rw (lt-ltb i n h)
+
+pub wanted-filled : (f : List ℕ) (n base i : ℕ) → n ≤ i → 0xa5a5a5a5a5a5a5a5 ≡ wantedCell f n base i
+unfolding wantedCell
+wanted-filled f n base i h = rw (le-ltb i n h)
+
+-- ---- the account
+
+pub differing-first : (a : Account) → a .agrees ≡ true
+    → record { records = a .records; calls = a .calls; disagree = add 64 (a .disagree) 1; kind = a .kind; agrees = false; malformed = a .malformed } ≡ differing a
+unfolding differing
+differing-first a e = rw e
+
+pub differing-again : (a : Account) → a .agrees ≡ false → a ≡ differing a
+unfolding differing
+differing-again a e = rw e
+
+pub valued-same : (a : Account) (wanted given : ℕ) → wanted ≡ given → a ≡ valued a wanted given
+unfolding valued
+valued-same a wanted given e = rw (eq-eqb wanted given e)
+
+pub valued-other : (a : Account) (wanted given : ℕ) → (wanted ≡ given → ⊥) → differing a ≡ valued a wanted given
+unfolding valued
+valued-other a wanted given e = rw (ne-eqb wanted given e)

@@ -1,0 +1,42 @@
+-- `replay::other_cell` meets its contract. The invariant: the elements below i are what is wanted. The measure is what is left.
+-- Assumes nothing.
+use mathlib.Core.Path.{_≡_, _∙_}
+use Prim.Native.Nat.{ℕ, _-_, _≤_, _<_}
+use borrow.Author.Count.{below-more}
+use borrow.Author.Needs.{needs}
+use lib.ListN.{length, getD}
+use Rattle.replay.specs.Lists.{wantedCell}
+use Rattle.replay.proofs.other_cell.Statement.{statement}
+use Rattle.replay.proofs.other_cell.Tie as tie
+
+abbrev Inv-loop : tie.InvT-loop
+Inv-loop given fields n base i₀ i = (i ≤ length given) × ((k : ℕ) → k < i → getD given k 0 ≡ wantedCell fields n base k)
+
+abbrev μ-loop : tie.MeasureT-loop
+μ-loop given fields n base i₀ i = length given - i
+
+returns : tie.Need-returns Inv-loop μ-loop
+returns c = (search needs, c .before .before .before .before .loop .inv .1)
+
+loop-again : tie.Need-loop-again Inv-loop μ-loop
+loop-again c =
+    (search needs, below-more _ _ (c .before .before .before .before .loop .inv .1) (c .if1 .left ∙ c .before .before .wanted-cell .ensures))
+
+returns-2 : tie.Need-returns-2 Inv-loop μ-loop
+returns-2 c = (search needs, c .before .loop .inv .1)
+
+pub other-cell-spec : {M : Type 1} → statement M
+other-cell-spec =
+    tie.close
+    (tie.spec
+    Inv-loop
+    μ-loop
+    (λ c. search needs)
+    (λ c κs. search needs)
+    (λ c. search needs)
+    (λ c. search needs)
+    returns
+    (λ c. search needs)
+    (λ c. search needs)
+    loop-again
+    returns-2)

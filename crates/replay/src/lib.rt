@@ -1,0 +1,352 @@
+// Lists of the oracle's answers, for the programs that replay one: records are found, fields read, answers compared and counted.
+// The format of a list is in oracle/README.md, "The replay lists". Every function is total on any bytes.
+// What is read and compared is in specs/Lists.antt; of what is printed no contract can speak.
+ghost use mathlib.Core.Path.{_≡_};
+ghost use mathlib.Core.Logic.{_⊎_};
+ghost use Prim.Native.Nat.{ℕ, _+_, _≤_, _<_};
+ghost use lib.ListN.{length, getD};
+ghost use Rattle.words.specs.Cells.{tab};
+ghost use Rattle.replay.specs.Lists as spec;
+use words::bytes;
+use words::sums;
+
+// What every byte and every element of a lent slice is before a call.
+pub const BYTE: u8 = 0xa5;
+
+pub const CELL: u64 = 0xa5a5_a5a5_a5a5_a5a5;
+
+// ---- finding and reading
+
+// The n bytes of a list from `at` on; none where they are not all there.
+pub fn part(list: &[u8], at: usize, n: usize) -> &[u8]
+    ensures { λ r. ⌜ now r ≡ spec.part (now (list .entry)) at n ⌝ }
+{
+    if list.len() < n {
+        return &list[..0];
+    }
+    if list.len() - n < at {
+        return &list[..0];
+    }
+    let end = at + n;
+    &list[at..end]
+}
+
+// Field i; 0 where there is none.
+pub fn field(fields: &[u8], i: usize) -> u64
+    ensures { λ r. ⌜ r ≡ spec.field (now (fields .entry)) i ⌝ }
+{
+    if i < fields.len() / 8 {
+        return bytes::get_u64(fields, 8 * i);
+    }
+    0
+}
+
+// The fields, as many as there are elements.
+pub fn fill(cells: &mut [u64], fields: &[u8])
+    ensures { λ _. ⌜ now (cells .exit) ≡ tab (spec.field (now (fields .entry))) (length (now (cells .entry))) ⌝ }
+{
+    let mut i: usize = 0;
+    while i < cells.len() {
+        cells[i] = field(fields, i);
+        i += 1;
+    }
+}
+
+// A record: its kind, and where its fields are.
+pub struct Record {
+    pub whole: bool,
+    pub kind: u64,
+    pub at: usize,
+    pub length: usize,
+}
+
+// What stands where no whole record does.
+fn no_record() -> Record
+    ensures { λ r. ⌜ (r .at ≡ 0) × (r .length ≡ 0) ⌝ }
+{
+    Record {
+        whole: false,
+        kind: 0,
+        at: 0,
+        length: 0,
+    }
+}
+
+// The record from `at` on, all of it within the list.
+pub fn record_at(list: &[u8], at: usize) -> Record
+    ensures { λ r. ⌜ r .at + r .length ≤ length (now (list .entry)) ⌝ }
+{
+    if list.len() < 16 {
+        return no_record();
+    }
+    if list.len() - 16 < at {
+        return no_record();
+    }
+    let kind = bytes::get_u64(list, at);
+    let count = bytes::get_u64(list, at + 8);
+    let start = at + 16;
+    if (((list.len() - start) / 8) as u64) < count {
+        return no_record();
+    }
+    Record {
+        whole: true,
+        kind,
+        at: start,
+        length: 8 * count as usize,
+    }
+}
+
+// ---- what is wanted
+
+// Byte i of a lent slice: a wanted one, or as it was.
+fn wanted_byte(wanted: &[u8], i: usize) -> u8
+    ensures { λ r. ⌜ r ≡ getD (now (wanted .entry)) i 0xa5 ⌝ }
+{
+    if i < wanted.len() {
+        return wanted[i];
+    }
+    BYTE
+}
+
+fn wide(b: u8) -> u64 {
+    b as u64
+}
+
+// Element i of a lent slice: base plus a field among the first n, or as it was.
+fn wanted_cell(fields: &[u8], n: usize, base: u64, i: usize) -> u64
+    ensures { λ r. ⌜ r ≡ spec.wantedCell (now (fields .entry)) n base i ⌝ }
+{
+    if i < n {
+        return sums::plus(base, field(fields, i));
+    }
+    CELL
+}
+
+// The first byte that is not what is wanted; the length where there is none.
+fn other_byte(given: &[u8], wanted: &[u8]) -> usize
+    ensures within { λ r. ⌜ r ≤ length (now (given .entry)) ⌝ }
+    ensures before { λ r. ⌜ ((k : ℕ) → k < r → getD (now (given .entry)) k 0 ≡ getD (now (wanted .entry)) k 0xa5) ⌝ }
+{
+    let mut i: usize = 0;
+    while i < given.len() {
+        let w = wanted_byte(wanted, i);
+        let g = given[i];
+        if g != w {
+            return i;
+        }
+        i += 1;
+    }
+    i
+}
+
+// The first element that is not what is wanted; the length where there is none.
+fn other_cell(given: &[u64], fields: &[u8], n: usize, base: u64) -> usize
+    ensures within { λ r. ⌜ r ≤ length (now (given .entry)) ⌝ }
+    ensures before { λ r. ⌜ ((k : ℕ) → k < r → getD (now (given .entry)) k 0 ≡ spec.wantedCell (now (fields .entry)) n base k) ⌝ }
+{
+    let mut i: usize = 0;
+    while i < given.len() {
+        let w = wanted_cell(fields, n, base, i);
+        let g = given[i];
+        if g != w {
+            return i;
+        }
+        i += 1;
+    }
+    i
+}
+
+// ---- the account
+
+// What a replay has come to: the records and calls so far, the calls that disagree, the kind of the record at hand, whether
+// the call at hand agrees so far, and whether the list was found malformed.
+pub struct Account {
+    pub records: u64,
+    pub calls: u64,
+    pub disagree: u64,
+    pub kind: u64,
+    pub agrees: bool,
+    pub malformed: bool,
+}
+
+impl Account {
+    pub fn new() -> Account
+        ensures { λ r. ⌜ r ≡ spec.nothing ⌝ }
+    {
+        Account {
+            records: 0,
+            calls: 0,
+            disagree: 0,
+            kind: 0,
+            agrees: true,
+            malformed: false,
+        }
+    }
+
+    // A record of this kind is next.
+    pub fn next_record(self, kind: u64) -> Account
+        ensures { λ r. ⌜ r ≡ spec.recorded self kind ⌝ }
+    {
+        Account {
+            records: sums::plus(self.records, 1),
+            calls: self.calls,
+            disagree: self.disagree,
+            kind,
+            agrees: self.agrees,
+            malformed: self.malformed,
+        }
+    }
+
+    // A call is next.
+    pub fn next_call(self) -> Account
+        ensures { λ r. ⌜ r ≡ spec.called self ⌝ }
+    {
+        Account {
+            records: self.records,
+            calls: sums::plus(self.calls, 1),
+            disagree: self.disagree,
+            kind: self.kind,
+            agrees: true,
+            malformed: self.malformed,
+        }
+    }
+
+    // The list breaks its format in the record at hand.
+    pub fn refused(self) -> Account
+        ensures { λ r. ⌜ r ≡ spec.refused self ⌝ }
+    {
+        self.place();
+        io::write_all(1, b": malformed\n");
+        Account {
+            records: self.records,
+            calls: self.calls,
+            disagree: self.disagree,
+            kind: self.kind,
+            agrees: self.agrees,
+            malformed: true,
+        }
+    }
+
+    // The record at hand.
+    fn place(self) {
+        io::write_all(1, b"record ");
+        io::print_decimal(1, self.records);
+        io::write_all(1, b", kind ");
+        io::print_decimal(1, self.kind);
+    }
+
+    // The last record, which says how many stand before it; nothing stands behind it.
+    pub fn last(self, list: &[u8], r: Record) -> Account
+        ensures { λ a. ⌜ (a ≡ self) ⊎ (a ≡ spec.refused self) ⌝ }
+    {
+        let f = part(list, r.at, r.length);
+        if f.len() != 8 {
+            return self.refused();
+        }
+        if list.len() < 8 {
+            return self.refused();
+        }
+        if list.len() - 8 != r.at {
+            return self.refused();
+        }
+        if field(f, 0) != self.records {
+            return self.refused();
+        }
+        self
+    }
+
+    // The first disagreement, in a line.
+    fn tell(self, what: &[u8], at: u64, wanted: u64, given: u64) {
+        if self.disagree != 0 {
+            return;
+        }
+        self.place();
+        io::write_all(1, b", call ");
+        io::print_decimal(1, self.calls);
+        io::write_all(1, b": ");
+        io::write_all(1, what);
+        io::write_all(1, b", element ");
+        io::print_decimal(1, at);
+        io::write_all(1, b": wanted ");
+        io::print_decimal(1, wanted);
+        io::write_all(1, b", given ");
+        io::print_decimal(1, given);
+        io::write_all(1, b"\n");
+    }
+
+    // The call at hand disagrees.
+    fn differs(self, what: &[u8], at: u64, wanted: u64, given: u64) -> Account
+        ensures { λ r. ⌜ r ≡ spec.differing self ⌝ }
+    {
+        if self.agrees {
+            self.tell(what, at, wanted, given);
+            return Account {
+                records: self.records,
+                calls: self.calls,
+                disagree: sums::plus(self.disagree, 1),
+                kind: self.kind,
+                agrees: false,
+                malformed: self.malformed,
+            };
+        }
+        self
+    }
+
+    // A value of the call at hand.
+    pub fn value(self, what: &[u8], wanted: u64, given: u64) -> Account
+        ensures { λ r. ⌜ r ≡ spec.valued self wanted given ⌝ }
+    {
+        if wanted == given {
+            return self;
+        }
+        self.differs(what, 0, wanted, given)
+    }
+
+    // A slice of bytes after the call at hand: those that are wanted, and behind them as it was.
+    pub fn bytes(self, what: &[u8], wanted: &[u8], given: &[u8]) -> Account
+        ensures { λ r. ⌜ spec.Compared self r (length (now (wanted .entry))) (now (given .entry)) (λ k. getD (now (wanted .entry)) k 0xa5) ⌝ }
+    {
+        let i = other_byte(given, wanted);
+        if i < given.len() {
+            let g = wide(given[i]);
+            return self.differs(what, i as u64, wide(wanted_byte(wanted, i)), g);
+        }
+        if given.len() < wanted.len() {
+            return self.differs(
+                what,
+                given.len() as u64,
+                wanted.len() as u64,
+                given.len() as u64,
+            );
+        }
+        self
+    }
+
+    // A slice of elements after the call at hand: base plus the first n fields, and behind them as it was.
+    pub fn cells(self, what: &[u8], fields: &[u8], n: usize, base: u64, given: &[u64]) -> Account
+        ensures { λ r. ⌜ spec.Compared self r n (now (given .entry)) (spec.wantedCell (now (fields .entry)) n base) ⌝ }
+    {
+        let i = other_cell(given, fields, n, base);
+        if i < given.len() {
+            let g = given[i];
+            return self.differs(what, i as u64, wanted_cell(fields, n, base, i), g);
+        }
+        if given.len() < n {
+            return self.differs(what, given.len() as u64, n as u64, given.len() as u64);
+        }
+        self
+    }
+
+    // The last line.
+    pub fn close(self) {
+        if self.malformed {
+            return;
+        }
+        io::print_decimal(1, self.records);
+        io::write_all(1, b" records, ");
+        io::print_decimal(1, self.calls);
+        io::write_all(1, b" calls, ");
+        io::print_decimal(1, self.disagree);
+        io::write_all(1, b" disagree\n");
+    }
+}
