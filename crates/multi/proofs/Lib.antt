@@ -1,0 +1,19 @@
+-- What belongs to no one function: laws on plain values, then the promises of specs/Promises.antt and the known sums.
+pub mod ImageLaws
+pub mod MultiReadsBack
+pub mod ImageWriteLaws
+pub mod EntryLaws
+pub mod CallLaws
+pub mod ReadLaws
+pub mod CellReads
+pub mod DomainReads
+pub mod RecordsMade
+pub mod MadeKeysRead
+pub mod CallsDetermined
+pub mod SharesSum
+pub mod PairsAdd
+pub mod RunsExist
+pub mod AddingCounts
+pub mod PairsAddUp
+pub mod MadeIsTaken
+pub mod KnownSums

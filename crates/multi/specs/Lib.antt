@@ -1,0 +1,9 @@
+pub mod Rules
+pub mod Image
+pub mod Calls
+pub mod Reading
+pub mod Tables
+pub mod ReadBack
+pub mod Promises
+pub mod Demand
+pub mod KnownSums

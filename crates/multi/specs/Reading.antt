@@ -1,0 +1,68 @@
+-- What the inner functions of reading find, and what they leave in scratch. l is an image, h the bucket functions that its hash keys
+-- give, s scratch as it came.
+--     Here l b y              bucket b has a record, and y is an index of it
+--     matchesBy, found        whether every record has its bucket's size; 0 or Mismatch
+--     sized h l s             scratch with the sizes of all buckets in front
+--     cellFound H h l x       what one cell answers, with the sizes in scratch
+--     counted h l s           scratch with the start of each bucket in front, and behind that its size
+--     bucketShares H l c      the shares of bucket c's record, two elements each
+--     Ready l s               the starts stand in front, and there is room behind 2B elements for all entries
+--     laid H h l s            what is left in scratch for the sums: behind starts and sizes the shares of all buckets
+-- Assumes nothing.
+use mathlib.Core.Path.{_≡_}
+use mathlib.Core.Bool.{Bool, true, cond}
+use mathlib.Core.List.{List, _++_}
+use Prim.Native.Nat.{ℕ, _+_, _*_, _≤_, _<_}
+use lib.ListN.{length, getD}
+use Rattle.words.specs.declared.Word.{Word}
+use Rattle.words.specs.Height as tree
+use Rattle.words.specs.Bytes.{put}
+use Rattle.words.specs.Cells.{tab, sumTo}
+use Rattle.words.specs.Refusals.{Mismatch}
+use Rattle.single.specs.Rules.{share}
+use Rattle.single.specs.Nodes.{spread}
+use Rattle.single.specs.Record.{recordOk}
+use Rattle.placement.specs.Buckets.{sizeOf, startOf}
+use Rattle.placement.specs.Calls.{most}
+use Rattle.multi.specs.declared.calls.Share.{Share}
+use Rattle.multi.specs.Rules.{multiShare}
+use Rattle.multi.specs.Image.{bucketsIn, domainIn, recordPart, recordOf, sizeIn, recordsBytes}
+use Rattle.multi.specs.Calls.{sideIn, alike}
+
+pub record Here (l : List ℕ) (b y : ℕ) : Type 0 where
+  pub few : b ≤ most
+  pub ok : recordOk tree.largest (recordPart l b) ≡ true
+  pub inside : y < sizeIn l b
+
+abbrev pub matchesBy : (ℕ → ℕ → ℕ) → List ℕ → Bool
+matchesBy h l = alike (sizeIn l) (sizeOf h (domainIn l)) (bucketsIn l)
+
+abbrev pub found : (ℕ → ℕ → ℕ) → List ℕ → ℕ
+found h l = cond (matchesBy h l) 0 Mismatch
+
+-- ---- one cell
+
+unfoldable pub sized : (ℕ → ℕ → ℕ) → List ℕ → List ℕ → List ℕ
+sized h l s = put s 0 (tab (sizeOf h (domainIn l)) (bucketsIn l))
+
+unfoldable pub cellFound : (Word → Word) → (ℕ → ℕ → ℕ) → List ℕ → ℕ → Share
+cellFound H h l x = record { number = found h l; share = cond (matchesBy h l) (multiShare H 64 (sideIn l) (recordOf l) h (domainIn l) x) 0 }
+
+-- ---- all cells
+
+unfoldable pub counted : (ℕ → ℕ → ℕ) → List ℕ → List ℕ → List ℕ
+counted h l s = put s 0 (tab (startOf h (domainIn l)) (bucketsIn l) ++ tab (sizeOf h (domainIn l)) (bucketsIn l))
+
+unfoldable pub bucketShares : (Word → Word) → Bool → List ℕ → ℕ → List ℕ
+bucketShares H p l c = spread (share H 64 p (recordOf l c)) (sizeIn l c)
+
+pub record Ready (l s : List ℕ) : Type 0 where
+  pub starts : (c : ℕ) → c < bucketsIn l → getD s c 0 ≡ sumTo c (sizeIn l)
+  pub room : bucketsIn l + bucketsIn l + 2 * sumTo (bucketsIn l) (sizeIn l) ≤ length s
+
+-- the parts of the first n buckets, one behind the other
+unfoldable pub spreadOut : (Word → Word) → Bool → List ℕ → ℕ → List ℕ → List ℕ
+spreadOut H p l n s = put s (bucketsIn l + bucketsIn l) (recordsBytes (bucketShares H p l) n)
+
+unfoldable pub laid : (Word → Word) → (ℕ → ℕ → ℕ) → List ℕ → List ℕ → List ℕ
+laid H h l s = cond (matchesBy h l) (spreadOut H (sideIn l) l (bucketsIn l) (counted h l s)) (counted h l s)

@@ -1,0 +1,103 @@
+// The public calls of multi keys: making a pair, one cell, all cells, and adding to a table.
+// Rules: document 01, "Refusal numbers". Source: dpf/src/mpdpf.rs for the first three; the adding call is ours.
+// Each promise is one equation: the answer and every lent slice at exit, together, are the function of specs/Calls.antt of what the
+// call was given.
+
+ghost use mathlib.Core.Path.{_≡_};
+ghost use Rattle.cipher.specs.TreeHash.{treeHash};
+ghost use Rattle.bucket_hash.specs.BucketHash.{bucketOf};
+ghost use Rattle.multi.specs.Calls as spec;
+use crate::image;
+use crate::read;
+use bucket_hash::Hashes;
+use placement::gather;
+use words::cells as slices;
+
+// What making answers: 0, the length of either image, the random words used and all evictions; or a refusal's number and zeros.
+pub struct Generated {
+    pub number: u64,
+    pub length: u64,
+    pub words: u64,
+    pub evictions: u64,
+}
+
+// What reading one cell answers: 0 and the share, or a refusal's number and 0.
+pub struct Share {
+    pub number: u64,
+    pub share: u64,
+}
+
+// ---- one cell
+
+// The share of a cell that the image's key gives. Scratch: an element a bucket, zeros at the end. Refusals: 9, 10, 5, 12.
+pub fn evaluate_at(key: &[u8], index: u64, scratch: &mut [u64]) -> Share
+    ensures { λ r. ⌜ spec.EvaluatesAt treeHash bucketOf (now (key .entry)) index (now (scratch .entry)) (spec.reading r (now (scratch .exit))) ⌝ }
+{
+    let number = read::evaluate_at_number(key, index, scratch.len());
+    if number != 0 {
+        return Share { number, share: 0 };
+    }
+    let hashes = Hashes::new(image::hash_keys(key));
+    let answer = read::read_cell(hashes, key, index, scratch);
+    slices::zero_first(scratch, image::buckets(key) as usize);
+    answer
+}
+
+// ---- all cells
+
+// The shares of all cells, in front of `out`. Scratch: 6D + 2B elements, zeros at the end. Refusals: 9, 5, 8, 12.
+pub fn evaluate_domain(key: &[u8], scratch: &mut [u64], out: &mut [u64]) -> u64
+    ensures { λ r. ⌜ spec.EvaluatesDomain treeHash bucketOf (now (key .entry)) (now (scratch .entry)) (now (out .entry))
+        (spec.evaluating r (now (scratch .exit)) (now (out .exit))) ⌝ }
+{
+    let number = read::evaluate_domain_number(key, scratch.len(), out.len());
+    if number != 0 {
+        return number;
+    }
+    let need = read::domain_room(key) as usize;
+    let hashes = Hashes::new(image::hash_keys(key));
+    let found = read::lay_shares(hashes, key, scratch);
+    if found != 0 {
+        slices::zero_first(scratch, need);
+        return found;
+    }
+    gather::gather(
+        hashes,
+        image::domain(key),
+        image::buckets(key),
+        scratch,
+        out,
+    );
+    slices::zero_first(scratch, need);
+    0
+}
+
+// ---- adding to a table
+
+// To each cell of the table the share that the image's key gives, modulo 2^64. Scratch: 6D + 2B elements, zeros at the end.
+// Refusals: 9, 11, 5, 12.
+pub fn add_to(key: &[u8], scratch: &mut [u64], table: &mut [u64]) -> u64
+    ensures { λ r. ⌜ spec.AddsTo treeHash bucketOf (now (key .entry)) (now (scratch .entry)) (now (table .entry))
+        (spec.adding r (now (scratch .exit)) (now (table .exit))) ⌝ }
+{
+    let number = read::add_to_number(key, table.len(), scratch.len());
+    if number != 0 {
+        return number;
+    }
+    let need = read::domain_room(key) as usize;
+    let hashes = Hashes::new(image::hash_keys(key));
+    let found = read::lay_shares(hashes, key, scratch);
+    if found != 0 {
+        slices::zero_first(scratch, need);
+        return found;
+    }
+    gather::gather_into(
+        hashes,
+        image::domain(key),
+        image::buckets(key),
+        scratch,
+        table,
+    );
+    slices::zero_first(scratch, need);
+    0
+}
