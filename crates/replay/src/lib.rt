@@ -337,10 +337,12 @@ impl Account {
         self
     }
 
-    // The last line.
-    pub fn close(self) {
+    // The last line, where the list could be read to its end; the answer is how many calls disagree.
+    pub fn close(self) -> u64
+        ensures { λ r. ⌜ r ≡ self .disagree ⌝ }
+    {
         if self.malformed {
-            return;
+            return self.disagree;
         }
         io::print_decimal(1, self.records);
         io::write_all(1, b" records, ");
@@ -348,5 +350,6 @@ impl Account {
         io::write_all(1, b" calls, ");
         io::print_decimal(1, self.disagree);
         io::write_all(1, b" disagree\n");
+        self.disagree
     }
 }
