@@ -2,8 +2,11 @@
 pub mod ImageLaws
 pub mod MultiReadsBack
 pub mod ImageWriteLaws
+pub mod MakingLaws
+pub mod MakingAnswers
 pub mod EntryLaws
 pub mod CallLaws
+pub mod MakingCalls
 pub mod ReadLaws
 pub mod CellReads
 pub mod DomainReads

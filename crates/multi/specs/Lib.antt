@@ -1,6 +1,7 @@
 pub mod Rules
 pub mod Image
 pub mod Calls
+pub mod Making
 pub mod Reading
 pub mod Tables
 pub mod ReadBack

@@ -8,6 +8,7 @@ ghost use Rattle.cipher.specs.TreeHash.{treeHash};
 ghost use Rattle.bucket_hash.specs.BucketHash.{bucketOf};
 ghost use Rattle.multi.specs.Calls as spec;
 use crate::image;
+use crate::make;
 use crate::read;
 use bucket_hash::Hashes;
 use placement::gather;
@@ -25,6 +26,44 @@ pub struct Generated {
 pub struct Share {
     pub number: u64,
     pub share: u64,
+}
+
+// ---- making a pair
+
+// Makes both parties' keys of the values at the points, and answers the length of either image, the random words used and all
+// evictions. Scratch: 4B + n elements, zeros at the end. Refusals: 1 to 8.
+pub fn generate_keys(
+    domain: u64,
+    buckets: u64,
+    keys: [u8; 48],
+    points: &[u64],
+    values: &[u64],
+    words: &[u64],
+    scratch: &mut [u64],
+    key0: &mut [u8],
+    key1: &mut [u8],
+) -> Generated
+    ensures { λ r. ⌜ spec.Generates treeHash bucketOf (spec.given domain buckets keys (now (points .entry)) (now (values .entry)) (now (words .entry)))
+        (now (scratch .entry)) (now (key0 .entry)) (now (key1 .entry)) (spec.generating r (now (scratch .exit)) (now (key0 .exit)) (now (key1 .exit))) ⌝ }
+{
+    let number = make::generate_number(domain, buckets, points, values, scratch.len());
+    if number != 0 {
+        return make::refused(number);
+    }
+    let need = 4 * buckets as usize + points.len();
+    let answer = make::make_in(
+        domain,
+        buckets,
+        keys,
+        points,
+        values,
+        words,
+        &mut scratch[..need],
+        key0,
+        key1,
+    );
+    slices::zero_first(scratch, need);
+    answer
 }
 
 // ---- one cell

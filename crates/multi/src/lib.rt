@@ -7,4 +7,5 @@
 pub mod calls;
 pub mod image;
 mod image_write;
+mod make;
 mod read;
