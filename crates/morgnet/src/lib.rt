@@ -8,6 +8,8 @@ ghost use Rattle.cipher.specs.TreeHash.{treeHash};
 ghost use Rattle.bucket_hash.specs.BucketHash.{bucketOf, bucketFor};
 ghost use Rattle.placement.specs.Calls.{placed, placing};
 ghost use Rattle.single.specs.Calls as single;
+ghost use Rattle.multi.specs.Calls as multi;
+ghost use Rattle.multi.specs.Image.{placeOf};
 ghost use Rattle.morgnet.specs.Face as face;
 use bucket_hash::Hashes;
 use cipher::Aes;
@@ -66,6 +68,91 @@ pub extern "C" fn morgnet_single_add_to(key: &[u8], scratch: &mut [u64], table: 
         ≡ single.addTo treeHash (now (key .entry)) (now (scratch .entry)) (now (table .entry)) ⌝ }
 {
     single::calls::add_to(key, scratch, table)
+}
+
+// ---- multi keys
+
+// `multi::calls::generate_keys`; answer: the image's length, the random words used, all evictions.
+#[no_mangle]
+pub extern "C" fn morgnet_multi_generate_keys(
+    domain: u64,
+    buckets: u64,
+    keys: &[u8; 48],
+    points: &[u64],
+    values: &[u64],
+    words: &[u64],
+    scratch: &mut [u64],
+    key0: &mut [u8],
+    key1: &mut [u8],
+    answer: &mut [u64; 3],
+) -> u64
+    ensures { λ r. ⌜ multi.generating (face.generatedMulti r (now (answer .exit))) (now (scratch .exit)) (now (key0 .exit)) (now (key1 .exit))
+        ≡ multi.generateKeys treeHash bucketOf
+        (multi.given domain buckets (now (keys .entry)) (now (points .entry)) (now (values .entry)) (now (words .entry)))
+        (now (scratch .entry)) (now (key0 .entry)) (now (key1 .entry)) ⌝ }
+{
+    let k = *keys;
+    let r = multi::calls::generate_keys(
+        domain,
+        buckets,
+        k,
+        points,
+        values,
+        words,
+        scratch,
+        key0,
+        key1,
+    );
+    *answer = [r.length, r.words, r.evictions];
+    r.number
+}
+
+// `multi::calls::evaluate_at`.
+#[no_mangle]
+pub extern "C" fn morgnet_multi_evaluate_at(
+    key: &[u8],
+    index: u64,
+    scratch: &mut [u64],
+    share: &mut u64,
+) -> u64
+    ensures { λ r. ⌜ multi.reading (record { number = r; share = now (share .exit) }) (now (scratch .exit))
+        ≡ multi.evaluateAt treeHash bucketOf (now (key .entry)) index (now (scratch .entry)) ⌝ }
+{
+    let r = multi::calls::evaluate_at(key, index, scratch);
+    *share = r.share;
+    r.number
+}
+
+// `multi::calls::evaluate_domain`.
+#[no_mangle]
+pub extern "C" fn morgnet_multi_evaluate_domain(
+    key: &[u8],
+    scratch: &mut [u64],
+    out: &mut [u64],
+) -> u64
+    ensures { λ r. ⌜ multi.evaluating r (now (scratch .exit)) (now (out .exit))
+        ≡ multi.evaluateDomain treeHash bucketOf (now (key .entry)) (now (scratch .entry)) (now (out .entry)) ⌝ }
+{
+    multi::calls::evaluate_domain(key, scratch, out)
+}
+
+// `multi::calls::add_to`.
+#[no_mangle]
+pub extern "C" fn morgnet_multi_add_to(key: &[u8], scratch: &mut [u64], table: &mut [u64]) -> u64
+    ensures { λ r. ⌜ multi.adding r (now (scratch .exit)) (now (table .exit))
+        ≡ multi.addTo treeHash bucketOf (now (key .entry)) (now (scratch .entry)) (now (table .entry)) ⌝ }
+{
+    multi::calls::add_to(key, scratch, table)
+}
+
+// `multi::image::record_place`; part: where the record begins, its length.
+#[no_mangle]
+pub extern "C" fn morgnet_multi_record(key: &[u8], bucket: u64, part: &mut [u64; 2]) -> u64
+    ensures { λ r. ⌜ face.place r (now (part .exit)) ≡ placeOf (now (key .entry)) bucket ⌝ }
+{
+    let r = multi::image::record_place(key, bucket);
+    *part = [r.start, r.bytes];
+    r.number
 }
 
 // ---- the layers below
