@@ -6,13 +6,13 @@
 --     hashesOf ks          the three ciphers of the hash keys ks, made once
 --     keysOf t k           the expanded key of function k
 --     bucketBy t b k x     the bucket of item x by function k, among b buckets, by the ciphers t
---     most                 the most buckets
 --     bucketFor key b x    what `bucket` answers
 -- A function above the last counts as the last. Assumes nothing.
 use mathlib.Core.List.{List, [], _∷_}
 use Prim.Native.Nat.{ℕ, zero, suc, _+_, _%_}
 use lib.Dec.{ltb}
 use lib.ListN.{getD}
+use Rattle.words.specs.Limits.{mostBuckets}
 use Rattle.words.specs.Cells.{tab}
 use Rattle.words.specs.Refusals.{Buckets, first, onSuccess}
 use Rattle.cipher.specs.Ccr.{hashCcr}
@@ -54,12 +54,9 @@ bucketBy t b k x = lowHash (keysOf t k) x % b
 
 -- ---- one bucket
 
-abbrev pub most : ℕ
-most = 65535
-
--- Buckets exactly when b is 0 or above the most
+-- Buckets exactly when b is 0 or above the most buckets
 unfoldable pub bucketNumber : ℕ → ℕ
-bucketNumber b = first ((ltb b 1, Buckets) ∷ (ltb most b, Buckets) ∷ [])
+bucketNumber b = first ((ltb b 1, Buckets) ∷ (ltb mostBuckets b, Buckets) ∷ [])
 
 unfoldable pub bucketFor : List ℕ → ℕ → ℕ → Hashed
 bucketFor key b x =

@@ -3,8 +3,9 @@
 use mathlib.Core.Path.{_≡_}
 use mathlib.Core.List.{List}
 use Prim.Native.Nat.{ℕ, _≤_, _<_}
-use lib.ListN.{length, getD}
+use lib.ListN.{length}
 use Rattle.words.specs.Word.{On128}
+use Rattle.words.specs.Bytes.{AreBytes}
 use Rattle.cipher.specs.Field.{times, inverse}
 use Rattle.cipher.specs.Fips197.{keyExpansion}
 use Rattle.cipher.specs.Ccr.{hashCcr}
@@ -14,10 +15,6 @@ use Rattle.cipher.specs.TreeHash.{treeHash}
 pub record InverseIsInverse : Type 0 where
   pub product : (b : ℕ) → 1 ≤ b → b < 256 → times b (inverse b) ≡ 1
   pub zero-stays : inverse 0 ≡ 0
-
--- every element is a byte
-abbrev pub AreBytes : List ℕ → Type 0
-AreBytes l = (i : ℕ) → getD l i 0 < 256
 
 -- FIPS 197, 5.2: an expanded key is 176 bytes
 pub record KeysAreBytes : Type 0 where

@@ -15,10 +15,11 @@ use native.Mathlib.Omega.{arith}
 use lib.Dec.{T, eqb, ltb}
 use lib.ListN.{length}
 use borrow.Author.Tests.{ltb-true, ltb-false, eqb-true, eqb-false, eq-eqb, not-false}
+use Rattle.words.specs.Limits.{largestMulti, mostBuckets}
 use Rattle.words.specs.Refusals.{every, first}
 use Rattle.words.proofs.TestLaws.{every-none, every-pass, every-at, first-miss, first-clear, numbered}
 use Rattle.placement.specs.Shares.{risingFrom}
-use Rattle.placement.specs.Calls.{largest, most, walkIn}
+use Rattle.placement.specs.Calls.{walkIn}
 use Rattle.multi.specs.Rules.{pairs, wordsUsed}
 use Rattle.multi.specs.Calls.{Given, generateRoom, imageLength, functions, generateEarly, generateLate, generateNumber, alike}
 
@@ -70,9 +71,9 @@ first-avoids m (row ∷ rows) h e = go (eqb (row .1) m) refl (row .0) (first-avo
 module _ (bucket : List ℕ → ℕ → ℕ → ℕ → ℕ) (g : Given) (len room0 room1 : ℕ) where
   pub record Clear : Type 0 where
     pub someCells : 1 ≤ g .domain
-    pub fewCells : g .domain ≤ largest
+    pub fewCells : g .domain ≤ largestMulti
     pub someBuckets : 1 ≤ g .buckets
-    pub fewBuckets : g .buckets ≤ most
+    pub fewBuckets : g .buckets ≤ mostBuckets
     pub somePoints : 1 ≤ length (g .points)
     pub fewPoints : length (g .points) ≤ g .buckets
     pub paired : length (g .values) ≡ length (g .points)

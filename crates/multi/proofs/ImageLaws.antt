@@ -1,5 +1,5 @@
 -- Laws of the multi image.
---     sums       sum-same, sum-le
+--     sums       sum-same, sum-mono
 --     starts     start-first, start-next, start-le, start-same, start-least
 --     records    length-treed; Standing, standing: what stands where a record was accepted
 --     parts      part-none, part-there; part-past, part-short, part-cut: as code cuts them
@@ -21,29 +21,18 @@ use borrow.Author.Tests.{eq-eqb, ne-eqb, eqb-true, eqb-false, leb-true, leb-fals
 use lib.Dec.{T, eqb, leb}
 use lib.ListN.{length, take, drop, getD, set, length-take, length-drop, drop-of-length-le}
 use lib.Seq.{length-take-le, drop-cons, take-all, take-nil}
+use Rattle.words.specs.Limits.{largestMulti, largestSingle, mostBuckets}
 use Rattle.words.specs.Bytes.{leNum, field, put}
 use Rattle.words.specs.Cells.{sumTo}
 use Rattle.words.specs.Height as height
 use Rattle.words.specs.Refusals.{Key, Index, every}
 use Rattle.words.proofs.ByteLaws.{field-mid, put-nil, put-cons, put-whole}
 use Rattle.words.proofs.TestLaws.{every-none, every-pass, every-fail, every-at, first-clear}
-use Rattle.placement.specs.Calls.{largest, most}
+use Rattle.words.proofs.CellLaws.{sum-same, sum-mono}
+use Rattle.words.proofs.HeightLaws.{limits-of}
 use Rattle.single.specs.Record as single
-use Rattle.single.proofs.RecordLaws.{limits-of, length-for, accepted}
+use Rattle.single.proofs.RecordLaws.{length-for, accepted}
 use Rattle.multi.specs.Image.{startOf, partyIn, bucketsIn, domainIn, countIn, offsetIn, keysIn, entryIn, recordPart, sizeIn, lengths, headerTests, headerOk, nextIn, slotOk, slotsOk, multiOk, recordNumber}
-
--- ---- sums
-
-pub sum-same : (n : ℕ) (f g : ℕ → ℕ) → ((c : ℕ) → c < n → f c ≡ g c) → sumTo n f ≡ sumTo n g
-unfolding sumTo
-sum-same zero f g alike = refl
-sum-same (suc n) f g alike = omega (arith, sum-same n f g (λ c below. alike c (omega arith)), alike n (omega arith))
-
-pub sum-le : (f : ℕ → ℕ) (c n : ℕ) → c ≤ n → sumTo c f ≤ sumTo n f
-unfolding sumTo
-sum-le f c zero h = let e : c ≡ 0 = omega arith in rw e (omega arith)
-sum-le f c (suc n) h =
-    ⊎-elim (λ e. rw e (omega arith)) (λ below. omega (arith, sum-le f c n (le-of-suc-le-suc below))) (eq-or-lt-of-le h)
 
 -- ---- starts
 
@@ -58,7 +47,7 @@ module _ (b : ℕ) (lens : ℕ → ℕ) where
 
   pub start-le : (c e : ℕ) → c ≤ e → startOf b lens c ≤ startOf b lens e
   unfolding startOf
-  start-le c e h = omega (arith, sum-le lens c e h)
+  start-le c e h = omega (arith, sum-mono lens c e h)
 
   pub start-least : (c : ℕ) → 72 + 8 * b ≤ startOf b lens c
   unfolding startOf
@@ -128,13 +117,13 @@ part-cut l a n e = let cut : a + n - a ≡ single.lengthFor (field 8 l a) = omeg
 
 -- the tests of a slot that has a record
 abbrev thereTests : List ℕ → ℕ → List Bool
-thereTests l c = eqb (entryIn l c) (nextIn l c) ∷ single.recordOk height.largest (recordPart l c) ∷ []
+thereTests l c = eqb (entryIn l c) (nextIn l c) ∷ single.recordOk largestSingle (recordPart l c) ∷ []
 
 pub slot-none : (l : List ℕ) (c : ℕ) → entryIn l c ≡ 0 → slotOk l c ≡ true
 unfolding slotOk
 slot-none l c e = rw (eq-eqb (entryIn l c) 0 e)
 
-pub slot-there : (l : List ℕ) (c : ℕ) → (entryIn l c ≡ 0 → ⊥) → slotOk l c ≡ every (eqb (entryIn l c) (nextIn l c) ∷ single.recordOk height.largest (recordPart l c) ∷ [])
+pub slot-there : (l : List ℕ) (c : ℕ) → (entryIn l c ≡ 0 → ⊥) → slotOk l c ≡ every (eqb (entryIn l c) (nextIn l c) ∷ single.recordOk largestSingle (recordPart l c) ∷ [])
 unfolding slotOk
 slot-there l c some = rw (ne-eqb (entryIn l c) 0 some)
 
@@ -157,15 +146,15 @@ module _ (l : List ℕ) (c : ℕ) (some : entryIn l c ≡ 0 → ⊥) (at : ℕ) 
   same-part = sym (part-there l c some ∙ ap (single.recordPart l) begins)
 
   -- no record begins where one has to
-  pub next-bad : single.recordOk height.largest (single.recordPart l at) ≡ false → 0 ≡ nextOr l c
+  pub next-bad : single.recordOk largestSingle (single.recordPart l at) ≡ false → 0 ≡ nextOr l c
   next-bad bad =
-      rw (slot-there l c some ∙ every-pass _ (eq-eqb _ _ (begins ∙ due)) ∙ every-fail _ (sym (ap (single.recordOk height.largest) same-part) ∙ bad))
+      rw (slot-there l c some ∙ every-pass _ (eq-eqb _ _ (begins ∙ due)) ∙ every-fail _ (sym (ap (single.recordOk largestSingle) same-part) ∙ bad))
 
   -- one does: the next one begins behind it
-  pub next-good : single.recordOk height.largest (single.recordPart l at) ≡ true → at + length (single.recordPart l at) ≡ nextOr l c
+  pub next-good : single.recordOk largestSingle (single.recordPart l at) ≡ true → at + length (single.recordPart l at) ≡ nextOr l c
   next-good good =
       let long : length (single.recordPart l at) ≡ length (recordPart l c) = ap length same-part in
-      rw (slot-there l c some ∙ every-pass _ (eq-eqb _ _ (begins ∙ due)) ∙ every-pass _ (sym (ap (single.recordOk height.largest) same-part) ∙ good) ∙ every-none)
+      rw (slot-there l c some ∙ every-pass _ (eq-eqb _ _ (begins ∙ due)) ∙ every-pass _ (sym (ap (single.recordOk largestSingle) same-part) ∙ good) ∙ every-none)
       (omega (arith, start-next (bucketsIn l) (lengths (recordPart l)) c))
 
 -- the pass goes on, or ends
@@ -223,11 +212,11 @@ pub record Recorded (l : List ℕ) (c : ℕ) : Type 0 where
   pub part : recordPart l c ≡ single.recordPart l (entryIn l c)
   pub sized : sizeIn l c ≡ field 8 l (entryIn l c)
   pub least : 1 ≤ sizeIn l c
-  pub most : sizeIn l c ≤ height.largest
+  pub most : sizeIn l c ≤ largestSingle
   pub long : length (recordPart l c) ≡ single.lengthFor (sizeIn l c)
   pub enough : 56 ≤ length (recordPart l c)
   pub inside : entryIn l c + length (recordPart l c) ≤ length l
-  pub ok : single.recordOk height.largest (recordPart l c) ≡ true
+  pub ok : single.recordOk largestSingle (recordPart l c) ≡ true
 
 -- a bucket that has none
 pub record Bare (l : List ℕ) (c : ℕ) : Type 0 where
@@ -247,9 +236,9 @@ unfolding sizeIn
 recorded l c some good =
     let ts = thereTests l c in
     let all = sym (slot-there l c some) ∙ good in
-    let ok : single.recordOk height.largest (recordPart l c) ≡ true = every-at ts 1 all in
+    let ok : single.recordOk largestSingle (recordPart l c) ≡ true = every-at ts 1 all in
     let part = part-there l c some in
-    let s = standing height.largest l (entryIn l c) (subst (λ (r : List ℕ). single.recordOk height.largest r ≡ true) part ok) in
+    let s = standing largestSingle l (entryIn l c) (subst (λ (r : List ℕ). single.recordOk largestSingle r ≡ true) part ok) in
     let lim = limits-of (field 8 l (entryIn l c)) (s .treed) in
     let sized : sizeIn l c ≡ field 8 l (entryIn l c) = ap single.sizeIn part ∙ s .sized in
     let whole : length (recordPart l c) ≡ single.lengthFor (field 8 l (entryIn l c)) = ap length part ∙ s .long in
@@ -274,9 +263,9 @@ slot-case l c good false e = inr (recorded l c (eqb-false _ _ e) good)
 pub record Passing (l : List ℕ) : Type 0 where
   pub party : partyIn l ≤ 1
   pub someBuckets : 1 ≤ bucketsIn l
-  pub fewBuckets : bucketsIn l ≤ most
+  pub fewBuckets : bucketsIn l ≤ mostBuckets
   pub someCells : 1 ≤ domainIn l
-  pub fewCells : domainIn l ≤ largest
+  pub fewCells : domainIn l ≤ largestMulti
   pub somePoints : 1 ≤ countIn l
   pub fewPoints : countIn l ≤ bucketsIn l
   pub offset : offsetIn l ≡ 72
@@ -284,7 +273,7 @@ pub record Passing (l : List ℕ) : Type 0 where
   pub exact : nextIn l (bucketsIn l) ≡ length l
   pub slot : (c : ℕ) → c < bucketsIn l → Slot l c
 
-pub header-few : (l : List ℕ) → headerOk l ≡ true → bucketsIn l ≤ most
+pub header-few : (l : List ℕ) → headerOk l ≡ true → bucketsIn l ≤ mostBuckets
 unfolding headerTests
 header-few l good = leb-true _ _ (every-at (headerTests (partyIn l) (bucketsIn l) (domainIn l) (countIn l) (offsetIn l) (length l)) 2 good)
 
@@ -309,7 +298,7 @@ passing l e =
     }
 
 -- the size of a bucket's record fits its place
-pub size-most : (l : List ℕ) (c : ℕ) → Slot l c → sizeIn l c ≤ height.largest
+pub size-most : (l : List ℕ) (c : ℕ) → Slot l c → sizeIn l c ≤ largestSingle
 size-most l c s = ⊎-elim (λ b. rw (b .sized) (omega arith)) (λ r. r .most) s
 
 -- ---- handing out a record
@@ -318,7 +307,7 @@ size-most l c s = ⊎-elim (λ b. rw (b .sized) (omega arith)) (λ r. r .most) s
 pub record Handed (l : List ℕ) (c : ℕ) : Type 0 where
   pub passes : Passing l
   pub below : c < bucketsIn l
-  pub few : c ≤ most
+  pub few : c ≤ mostBuckets
 
 pub handed : (l : List ℕ) (c : ℕ) → recordNumber l c ≡ 0 → Handed l c
 unfolding recordNumber

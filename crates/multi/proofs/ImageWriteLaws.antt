@@ -1,5 +1,4 @@
 -- Laws of writing a multi image.
---     stores       stored-next: a store that fits, right behind what was written
 --     copying      copy-step, copy-done: a loop that copies bytes
 --     header       front-room, header-written
 --     directory    entry-of, directory-next, directory-same
@@ -17,18 +16,10 @@ use lib.ListN.{length, drop, getD, set, length-append, length-drop, drop-of-leng
 use lib.Seq.{drop-cons}
 use Rattle.words.specs.Bytes.{leBytes, put, stored}
 use Rattle.words.specs.Cells.{sumTo}
-use Rattle.words.proofs.ByteLaws.{put-nil, put-cons, put-next, length-put, stored-fits, length-leBytes}
+use Rattle.words.proofs.ByteLaws.{put-nil, put-cons, put-next, length-put, stored-fits, length-leBytes, stored-next}
 use Rattle.multi.specs.Image.{startOf, multiLength, headerBytes, entryFor, directoryBytes, recordsBytes, lengths, multiBytes}
 use Rattle.multi.proofs.ImageLaws.{start-le, start-same}
 use Rattle.multi.proofs.MultiReadsBack.{length-header, length-directory, length-records}
-
--- ---- stores
-
-pub stored-next : (l0 : List ℕ) {l1 l2 : List ℕ} (a b : ℕ) (bs cs : List ℕ) → l1 ≡ put l0 a bs → l2 ≡ stored l1 b cs → b ≡ a + length bs → b + length cs ≤ length l0
-    → l2 ≡ put l0 a (bs ++ cs)
-stored-next l0 {l1} a b bs cs p q e h =
-    let long : length l1 ≡ length l0 = ap length p ∙ length-put l0 a bs (omega arith) in
-    put-next l0 a b bs cs p (q ∙ stored-fits l1 b cs (omega arith)) e h
 
 -- ---- copying
 

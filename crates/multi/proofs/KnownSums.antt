@@ -5,7 +5,7 @@ use lib.Count.{leadingZeros}
 use Rattle.words.specs.Word.{_⊕_, _when_, is-odd, bit, odd, clear, mark, shift}
 use Rattle.words.specs.Ring.{add, sub, low, conv}
 use Rattle.words.specs.Bytes.{leBytes, wordBytes}
-use Rattle.words.specs.Cells.{sumTo}
+use Rattle.words.specs.Cells.{sumTo, wordNo}
 use Rattle.words.specs.Height.{height, heightNumber}
 use Rattle.words.specs.Refusals.{every, first}
 use Rattle.words.proofs.KnownSums as words
@@ -17,7 +17,7 @@ use Rattle.placement.specs.Walk.{nextFn, takeUp, unplaced, goesTo, stepOf, inse
 use Rattle.placement.specs.Shares.{atPoints, alphaOf, betaOf, risingFrom}
 use Rattle.placement.specs.Calls.{walkIn, placeRows, placeable, placeNumber}
 use Rattle.placement.proofs.KnownSums as placement
-use Rattle.multi.specs.Rules.{wordNo, usedBefore, madeRecord}
+use Rattle.multi.specs.Rules.{usedBefore, madeRecord}
 use Rattle.multi.specs.Image.{startOf, headerBytes, entryFor, directoryBytes, recordsBytes, multiBytes, bytesOf}
 use Rattle.multi.specs.Calls.{imageLength, generateNumber, imageMade}
 use Rattle.multi.specs.KnownSums.{KnownSums}

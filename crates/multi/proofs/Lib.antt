@@ -12,11 +12,13 @@ pub mod CellReads
 pub mod DomainReads
 pub mod RecordsMade
 pub mod MadeKeysRead
+pub mod OwnKeysRead
 pub mod CallsDetermined
 pub mod SharesSum
 pub mod PairsAdd
 pub mod RunsExist
 pub mod AddingCounts
 pub mod PairsAddUp
+pub mod OwnPairsAddUp
 pub mod MadeIsTaken
 pub mod KnownSums

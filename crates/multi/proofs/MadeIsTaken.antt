@@ -6,11 +6,11 @@ use mathlib.Core.List.{List}
 use Prim.Native.Nat.{ℕ, _+_, _*_, _≤_}
 use native.Mathlib.Omega.{arith}
 use lib.ListN.{length}
+use Rattle.words.specs.Limits.{mostBuckets}
 use Rattle.words.specs.declared.Word.{Word}
 use Rattle.words.specs.Word.{On128}
 use Rattle.single.specs.Calls as one
 use Rattle.single.proofs.MadeIsTaken as oneTaken
-use Rattle.placement.specs.Calls.{most}
 use Rattle.multi.specs.Calls.{imageMade, addToNumber}
 use Rattle.multi.specs.Promises.{Below}
 use Rattle.multi.specs.Demand.{answerOf, shareOf, Pair, onePoint, manyPoints, imageOf, roomFor, MadeIsTaken}
@@ -31,7 +31,7 @@ module _ (H : Word → Word) (on : On128 H) (bucket : List ℕ → ℕ → ℕ �
       ∙ made-keys-read H on bucket low g a p .adds room (omega arith)
 
   -- the most scratch that any pair needs
-  room-most : (q : Pair H bucket D) → roomFor H bucket D q ≤ 6 * D + 2 * most
+  room-most : (q : Pair H bucket D) → roomFor H bucket D q ≤ 6 * D + 2 * mostBuckets
   room-most (onePoint q) = omega arith
   room-most (manyPoints g a s) = omega (arith, clear bucket g (a .scratch) (a .room0) (a .room1) (a .number) .fewBuckets)
 

@@ -14,19 +14,21 @@ use native.Mathlib.Decide.{ℕ-discrete}
 use lib.Dec.{eqb}
 use lib.ListN.{length, getD}
 use borrow.Author.Tests.{ne-eqb, eq-eqb, lt-leb, le-ltb}
+use Rattle.words.specs.Limits.{largestMulti, largestSingle}
 use Rattle.words.specs.declared.Word.{Word}
 use Rattle.words.specs.Word.{On128}
 use Rattle.words.specs.Height as tree
 use Rattle.words.specs.Refusals.{first}
 use Rattle.words.proofs.TestLaws.{first-none, first-miss}
+use Rattle.words.proofs.HeightLaws.{in-limits}
 use Rattle.single.specs.Rules.{Record}
 use Rattle.single.specs.Record as single
 use Rattle.single.specs.Record.{noRecord, lengthFor, recordIn}
 use Rattle.single.specs.ReadBack.{Whole}
-use Rattle.single.proofs.RecordLaws.{in-limits, length-for, length-recordBytes}
+use Rattle.single.proofs.RecordLaws.{length-for, length-recordBytes}
 use Rattle.single.proofs.RecordReadsBack.{record-reads-back}
 use Rattle.placement.specs.Buckets.{sizeOf, posOf}
-use Rattle.placement.specs.Calls.{largest, walkIn}
+use Rattle.placement.specs.Calls.{walkIn}
 use Rattle.placement.proofs.BucketLaws.{size-le}
 use Rattle.multi.specs.Rules.{shareOver, cellShare, multiShare, madeRecord, madeShare}
 use Rattle.multi.specs.Image.{bytesOf, partyIn, bucketsIn, domainIn, keysIn, recordPart, recordOf, sizeIn, multiOk}
@@ -40,9 +42,9 @@ use Rattle.multi.proofs.RecordsMade.{fits-word, made-some, made-none, m
 
 -- ---- records
 
-module _ (H : Word → Word) (on : On128 H) (h : ℕ → ℕ → ℕ) (D : ℕ) (few : D ≤ largest) (pts vs t ws : List ℕ) (low : (i : ℕ) → getD ws i 0 < 2 ^ 64)
+module _ (H : Word → Word) (on : On128 H) (h : ℕ → ℕ → ℕ) (D : ℕ) (few : D ≤ largestMulti) (pts vs t ws : List ℕ) (low : (i : ℕ) → getD ws i 0 < 2 ^ 64)
     (p : Bool) (b : ℕ) where
-  pub made-whole : (madeRecord H 64 h D pts vs t ws p b ≡ noRecord) ⊎ Whole tree.largest (madeRecord H 64 h D pts vs t ws p b)
+  pub made-whole : (madeRecord H 64 h D pts vs t ws p b ≡ noRecord) ⊎ Whole largestSingle (madeRecord H 64 h D pts vs t ws p b)
   made-whole = elim (ℕ-discrete (sizeOf h D b) 0) [
     | yes e ↦ inl (made-none H 64 h D pts vs t ws p b e)
     | no n ↦ inr (rw (made-some H 64 h D pts vs t ws p b (omega arith))
@@ -54,7 +56,7 @@ unfolding lengthFor tree.heightNumber first
 length-none = refl
 
 -- none takes up nothing
-pub length-bytesOf : (r : Record) → (r ≡ noRecord) ⊎ Whole tree.largest r → length (bytesOf r) ≡ lengthFor (r .size)
+pub length-bytesOf : (r : Record) → (r ≡ noRecord) ⊎ Whole largestSingle r → length (bytesOf r) ≡ lengthFor (r .size)
 unfolding single.recordLength
 length-bytesOf r s =
     ⊎-elim
@@ -90,7 +92,7 @@ module _ (H : Word → Word) (on : On128 H) (bucket : List ℕ → ℕ → ℕ �
   cleared : Clear bucket g (acc .scratch) (acc .room0) (acc .room1)
   cleared = clear bucket g (acc .scratch) (acc .room0) (acc .room1) (acc .number)
 
-  each : (b : ℕ) → (recordMade H bucket g p b ≡ noRecord) ⊎ Whole tree.largest (recordMade H bucket g p b)
+  each : (b : ℕ) → (recordMade H bucket g p b ≡ noRecord) ⊎ Whole largestSingle (recordMade H bucket g p b)
   each b = made-whole H on _ (g .domain) (cleared .fewCells) _ _ _ _ (acc .worded) p b
 
   side : ℕ

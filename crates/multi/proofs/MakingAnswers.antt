@@ -12,18 +12,18 @@ use borrow.Author.Tests.{eq-eqb, ne-eqb, ltb-true, ltb-false}
 use lib.Dec.{eqb, ltb}
 use lib.ListN.{length, take, drop, getD, length-append, List·getD-eq-default}
 use lib.Seq.{take-at, drop-at}
+use Rattle.words.specs.Limits.{largestMulti, largestSingle, mostBuckets}
 use Rattle.words.specs.declared.Word.{Word}
 use Rattle.words.specs.Bytes.{put}
 use Rattle.words.specs.Cells.{tab}
-use Rattle.words.specs.Height as height
 use Rattle.words.specs.Refusals.{Place, Words, Room, first, onSuccess}
-use Rattle.words.proofs.CellLaws.{length-tab, getD-tab}
+use Rattle.words.proofs.CellLaws.{length-tab, getD-tab, sum-same}
 use Rattle.words.proofs.TestLaws.{first-hit, first-miss, first-clear, succeeded, refused}
 use Rattle.placement.specs.Buckets.{sizeOf}
 use Rattle.placement.specs.Walk.{Walk}
 use Rattle.placement.specs.Shares.{alphaOf, betaOf}
 use Rattle.placement.specs.Passes.{cells}
-use Rattle.placement.specs.Calls.{largest, most, walkIn, laidOut}
+use Rattle.placement.specs.Calls.{walkIn, laidOut}
 use Rattle.placement.proofs.BucketLaws.{size-le}
 use Rattle.placement.proofs.LayLaws.{placement-in, cells-length}
 use Rattle.single.specs.Record as single
@@ -33,12 +33,12 @@ use Rattle.multi.specs.Rules.{wordsFor, usedBefore, wordsUsed, madeRecor
 use Rattle.multi.specs.Image.{multiLength, lengthsBy, headerBytes, recordsBytes, bytesOf, lengths, multiBytes}
 use Rattle.multi.specs.Calls.{Given, imageLength, functions, generateLate, imageMade}
 use Rattle.multi.specs.Making.{valueAt, usedBy, totalsOf, Fitting, recordBy, recordFrom, laidRecord, laidBytes, Writing, writing, refusing, roomRows, writeLaid, writeGiven}
-use Rattle.multi.proofs.ImageLaws.{sum-same, start-same}
+use Rattle.multi.proofs.ImageLaws.{start-same}
 use Rattle.multi.proofs.ImageWriteLaws.{directory-same}
 
 -- ---- from what was laid out
 
-pub laid-fits : (words : ℕ) (sizes : List ℕ) (room0 room1 : ℕ) → length sizes ≤ most → ((c : ℕ) → getD sizes c 0 ≤ height.largest)
+pub laid-fits : (words : ℕ) (sizes : List ℕ) (room0 room1 : ℕ) → length sizes ≤ mostBuckets → ((c : ℕ) → getD sizes c 0 ≤ largestSingle)
     → first (roomRows words (totalsOf sizes) room0 room1) ≡ 0 → Fitting sizes room0 room1
 unfolding roomRows
 laid-fits words sizes room0 room1 few small e =
@@ -165,10 +165,10 @@ module _ (H : Word → Word) (h : ℕ → ℕ → ℕ) (d b : ℕ) (pts vs ws t 
       ap (λ (k : ℕ). multiBytes party k d n keys (laidBytes H t counted noted vs ws p)) (length-tab (sizeOf h d) b)
       ∙ multi-same party b d n keys _ _ (λ c below. ap bytesOf (record-laid p c below))
 
-  small-laid : d ≤ largest → (c : ℕ) → getD counted c 0 ≤ height.largest
+  small-laid : d ≤ largestMulti → (c : ℕ) → getD counted c 0 ≤ largestSingle
   small-laid few c = go (ltb c b) refl
     where
-      go : (q : Bool) → ltb c b ≡ q → getD counted c 0 ≤ height.largest
+      go : (q : Bool) → ltb c b ≡ q → getD counted c 0 ≤ largestSingle
       go true e = omega (arith, getD-tab (sizeOf h d) b c (ltb-true c b e), size-le h c d)
       go false e = omega (arith, List·getD-eq-default counted 0 {n = c} (omega (arith, length-tab (sizeOf h d) b, ltb-false c b e)))
 
@@ -237,7 +237,7 @@ module _ (H : Word → Word) (bucket : List ℕ → ℕ → ℕ → ℕ → ℕ)
     sizes-are : take b (drop (b + n) m) ≡ tab (sizeOf (functions bucket g) (g .domain)) b
     sizes-are = ap (λ (x : List ℕ). take b (drop (b + n) x)) filled ∙ sizes-cut (functions bucket g) (g .domain) b (g .points) l low none
 
-    pub work-small : g .domain ≤ largest → (c : ℕ) → getD (take b (drop (b + n) m)) c 0 ≤ height.largest
+    pub work-small : g .domain ≤ largestMulti → (c : ℕ) → getD (take b (drop (b + n) m)) c 0 ≤ largestSingle
     work-small few c = rw sizes-are (small-laid H (functions bucket g) (g .domain) b (g .points) (g .values) (g .words) [] few c)
 
     pub work-given : {ev : ℕ} (k0 k1 : List ℕ) → ev ≡ walkIn (functions bucket g) b (g .points) .evictions

@@ -11,14 +11,15 @@ use native.Mathlib.Omega.{arith}
 use borrow.Author.Tests.{eq-eqb, ne-eqb, eqb-true, eqb-false, le-ltb, ltb-false, not-false, le-leb, lt-leb}
 use lib.Dec.{T, lit≤, eqb, leb, ltb}
 use lib.ListN.{length}
+use Rattle.words.specs.Limits.{largestMulti, mostBuckets}
 use Rattle.words.specs.declared.Word.{Word}
 use Rattle.words.specs.Bytes.{put}
 use Rattle.words.specs.Cells.{zeroed}
 use Rattle.words.specs.Refusals.{Domain, Buckets, Count, Point, Scratch, Place, Words, Room, first, onSuccess}
-use Rattle.words.proofs.TestLaws.{first-none, first-miss, first-clear, succeeded, refused}
+use Rattle.words.proofs.TestLaws.{first-none, first-miss, first-clear, succeeded, refused, first-most, first-least}
 use Rattle.placement.specs.declared.Placed.{Placed}
 use Rattle.placement.specs.Shares.{risingFrom}
-use Rattle.placement.specs.Calls.{Placing, largest, most, walkIn, placeRows, placeable, placed, laidOut, layingOut}
+use Rattle.placement.specs.Calls.{Placing, walkIn, placeRows, placeable, placed, laidOut, layingOut}
 use Rattle.placement.proofs.CallLaws.{placed-gave-up, placed-all}
 use Rattle.multi.specs.declared.calls.Generated.{Generated}
 use Rattle.multi.specs.Calls.{Given, generateRoom, functions, generateEarly, generateLate, generateNumber, Generating, generating, generateKeys}
@@ -29,9 +30,9 @@ use Rattle.multi.proofs.CallLaws.{early-refused, early-passed}
 
 pub record Early (g : Given) (len : ℕ) : Type 0 where
   pub someCells : 1 ≤ g .domain
-  pub fewCells : g .domain ≤ largest
+  pub fewCells : g .domain ≤ largestMulti
   pub someBuckets : 1 ≤ g .buckets
-  pub fewBuckets : g .buckets ≤ most
+  pub fewBuckets : g .buckets ≤ mostBuckets
   pub somePoints : 1 ≤ length (g .points)
   pub fewPoints : length (g .points) ≤ g .buckets
   pub rising : risingFrom 0 (g .domain) (g .points) ≡ true
@@ -111,43 +112,6 @@ module _ (h : ℕ → ℕ → ℕ) (d b : ℕ) (pts l : List ℕ) (clear : place
 
     pub laid-work : r .number ≡ 0 → m ≡ put l 0 (laidOut h d b pts)
     laid-work none = ap (λ (p : Placing). p .scratch) (all-placed (laid-hand none))
-
--- ---- numbers of rows
-
--- every number of the rows is at most m, or at least m
-abbrev atMost : ℕ → List (Bool × ℕ) → Bool
-atMost m [] = true
-atMost m (row ∷ rows) = cond (leb (row .1) m) (atMost m rows) false
-
-abbrev atLeast : ℕ → List (Bool × ℕ) → Bool
-atLeast m [] = true
-atLeast m (row ∷ rows) = cond (leb m (row .1)) (atLeast m rows) false
-
-split : (t b : Bool) → T (cond t b false) → T t × T b
-split true b h = (tt, h)
-split false b h = absurd h
-
-cond-most : (t : Bool) (a b m : ℕ) → a ≤ m → b ≤ m → cond t a b ≤ m
-cond-most true a b m p q = p
-cond-most false a b m p q = q
-
-cond-least : (t : Bool) (a b m : ℕ) → m ≤ a → ((b ≡ 0 → ⊥) → m ≤ b) → (cond t a b ≡ 0 → ⊥) → m ≤ cond t a b
-cond-least true a b m p q some = p
-cond-least false a b m p q some = q some
-
-first-most : (m : ℕ) (rows : List (Bool × ℕ)) → T (atMost m rows) → first rows ≤ m
-unfolding first
-first-most m [] h = omega arith
-first-most m (row ∷ rows) h =
-    let q = split (leb (row .1) m) (atMost m rows) h in
-    cond-most (row .0) (row .1) (first rows) m (lit≤ (q .0)) (first-most m rows (q .1))
-
-first-least : (m : ℕ) (rows : List (Bool × ℕ)) → T (atLeast m rows) → (first rows ≡ 0 → ⊥) → m ≤ first rows
-unfolding first
-first-least m [] h some = absurd (some refl)
-first-least m (row ∷ rows) h some =
-    let q = split (leb m (row .1)) (atLeast m rows) h in
-    cond-least (row .0) (row .1) (first rows) m (lit≤ (q .0)) (λ left. first-least m rows (q .1) left) some
 
 -- ---- the call
 

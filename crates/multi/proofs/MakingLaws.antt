@@ -15,14 +15,16 @@ use native.Mathlib.Omega.{arith}
 use borrow.Author.Tests.{eq-eqb, ne-eqb, eqb-true, eqb-false}
 use lib.Dec.{eqb}
 use lib.ListN.{length, getD, length-append}
+use Rattle.words.specs.Limits.{largestSingle}
 use Rattle.words.specs.declared.Word.{Word}
 use Rattle.words.specs.Bytes.{put, stored}
-use Rattle.words.specs.Cells.{sumTo}
+use Rattle.words.specs.Cells.{sumTo, wordNo}
 use Rattle.words.specs.Height as height
 use Rattle.words.specs.Refusals.{first}
 use Rattle.words.proofs.ByteLaws.{put-nil, put-next, length-put, stored-fits}
 use Rattle.words.proofs.CellLaws.{sumTo-next}
 use Rattle.words.proofs.TestLaws.{succeeded}
+use Rattle.words.proofs.HeightLaws.{in-limits}
 use Rattle.single.specs.declared.SingleKey.{SingleKey}
 use Rattle.single.specs.declared.pairs.KeyPair.{KeyPair}
 use Rattle.single.specs.Rules.{Record, made}
@@ -31,8 +33,8 @@ use Rattle.single.specs.Record as single
 use Rattle.single.specs.Pairs.{keysFor}
 use Rattle.single.proofs.KeyLaws.{record-back}
 use Rattle.single.proofs.MadeFits.{made-fits}
-use Rattle.single.proofs.RecordLaws.{in-limits, count-most, length-none, length-recordBytes}
-use Rattle.multi.specs.Rules.{wordNo, wordsFor}
+use Rattle.single.proofs.RecordLaws.{count-most, length-none, length-recordBytes}
+use Rattle.multi.specs.Rules.{wordsFor}
 use Rattle.multi.specs.Image.{startOf, multiLength, lengthsBy, headerBytes, directoryBytes, recordsBytes, bytesOf, lengths, multiBytes}
 use Rattle.multi.specs.Making.{valueAt, usedBy, Fitting, recordBy, recordFrom, laidRecord, laidBytes}
 use Rattle.multi.proofs.ImageLaws.{length-treed, start-first, start-next, start-le, start-same}
@@ -80,12 +82,12 @@ module _ (H : Word → Word) (S α β : ℕ) (r0 r1 : Word) (p : Bool) where
   unfolding recordBy bytesOf
   by-some some = rw (ne-eqb S 0 some, made-fits .sized H S α r0 r1 64 β p, ne-eqb S 0 some)
 
-  length-some : (S ≡ 0 → ⊥) → S ≤ height.largest → length (bytesOf (recordBy H S α β r0 r1 p)) ≡ single.lengthFor S
+  length-some : (S ≡ 0 → ⊥) → S ≤ largestSingle → length (bytesOf (recordBy H S α β r0 r1 p)) ≡ single.lengthFor S
   length-some some few =
       ap length (by-some some) ∙ length-recordBytes _ ∙ ap (λ (n : ℕ). 56 + 16 * n) (made-fits .counted H S α r0 r1 64 β p)
       ∙ sym (length-treed S (in-limits S (omega arith) few))
 
-  pub length-by : S ≤ height.largest → length (bytesOf (recordBy H S α β r0 r1 p)) ≡ single.lengthFor S
+  pub length-by : S ≤ largestSingle → length (bytesOf (recordBy H S α β r0 r1 p)) ≡ single.lengthFor S
   length-by few = go (eqb S 0) refl
     where
       go : (t : Bool) → eqb S 0 ≡ t → length (bytesOf (recordBy H S α β r0 r1 p)) ≡ single.lengthFor S
@@ -93,7 +95,7 @@ module _ (H : Word → Word) (S α β : ℕ) (r0 r1 : Word) (p : Bool) where
       go false e = length-some (eqb-false S 0 e) few
 
   -- a key that holds the record, stored where there is room
-  pub stored-by : (l : List ℕ) {m : List ℕ} {k : SingleKey} (at : ℕ) → (S ≡ 0 → ⊥) → S ≤ height.largest → k ≡ keyOf (made H S α r0 r1 64 β p)
+  pub stored-by : (l : List ℕ) {m : List ℕ} {k : SingleKey} (at : ℕ) → (S ≡ 0 → ⊥) → S ≤ largestSingle → k ≡ keyOf (made H S α r0 r1 64 β p)
       → at + single.lengthFor S ≤ length l → m ≡ stored l at (single.recordBytes (recordOf k)) → m ≡ put l at (bytesOf (recordBy H S α β r0 r1 p))
   stored-by l {m} {k} at some few held room e =
       let bytes : single.recordBytes (recordOf k) ≡ bytesOf (recordBy H S α β r0 r1 p) =
@@ -102,7 +104,7 @@ module _ (H : Word → Word) (S α β : ℕ) (r0 r1 : Word) (p : Bool) where
       e ∙ ap (λ (x : List ℕ). stored l at x) bytes ∙ stored-fits l at _ (omega arith)
 
 -- both keys of a size within the limits
-pub keys-are : (H : Word → Word) (S α β : ℕ) (r0 r1 : Word) → (S ≡ 0 → ⊥) → S ≤ height.largest
+pub keys-are : (H : Word → Word) (S α β : ℕ) (r0 r1 : Word) → (S ≡ 0 → ⊥) → S ≤ largestSingle
     → keysFor H S α β r0 r1 ≡ record { number = 0; key0 = keyOf (made H S α r0 r1 64 β false); key1 = keyOf (made H S α r0 r1 64 β true) }
 unfolding keysFor
 keys-are H S α β r0 r1 some few = succeeded _ _ _ (in-limits S (omega arith) few)
@@ -121,7 +123,7 @@ module _ (H : Word → Word) (holders sizes spots vs ws : List ℕ) where
   unfolding recordFrom
   from-is p c u e0 e1 e2 e3 e4 e5 = rw (e0, e1, e3, e2, e4, e5)
 
-  module _ (small : (c : ℕ) → getD sizes c 0 ≤ height.largest) (p : Bool) where
+  module _ (small : (c : ℕ) → getD sizes c 0 ≤ largestSingle) (p : Bool) where
     pub length-laid : (c : ℕ) → length (laidBytes H holders sizes spots vs ws p c) ≡ lengthsBy sizes c
     unfolding laidRecord recordFrom lengthsBy
     length-laid c = length-by H _ _ _ _ _ p (small c)

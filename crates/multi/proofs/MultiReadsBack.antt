@@ -13,6 +13,7 @@ use borrow.Author.Tests.{eq-eqb, ne-eqb, le-leb}
 use lib.Dec.{eqb}
 use lib.ListN.{length, take, drop, length-append, length-drop}
 use lib.Seq.{take-at, drop-at, take-append-le, drop-append-le}
+use Rattle.words.specs.Limits.{largestMulti, largestSingle, mostBuckets}
 use Rattle.words.specs.Word.{is-odd, bit}
 use Rattle.words.specs.Bytes.{leBytes, leNum, field, wordAt}
 use Rattle.words.specs.Cells.{sumTo}
@@ -20,7 +21,7 @@ use Rattle.words.specs.Height as height
 use Rattle.words.specs.Refusals.{every}
 use Rattle.words.proofs.ByteLaws.{length-leBytes, field-at}
 use Rattle.words.proofs.TestLaws.{every-none, every-pass}
-use Rattle.placement.specs.Calls.{largest, most}
+use Rattle.words.proofs.CellLaws.{sum-mono}
 use Rattle.single.specs.Rules.{Record}
 use Rattle.single.specs.Record as single
 use Rattle.single.specs.ReadBack.{Whole}
@@ -28,7 +29,7 @@ use Rattle.single.proofs.RecordReadsBack.{record-reads-back}
 use Rattle.single.proofs.RecordLaws.{count-most, accepted, field-right}
 use Rattle.multi.specs.Image.{startOf, multiLength, headerBytes, entryFor, directoryBytes, recordsBytes, bytesOf, lengths, multiBytes, partyIn, bucketsIn, domainIn, countIn, offsetIn, keysIn, entryIn, recordPart, recordOf, headerTests, headerOk, nextIn, slotOk, slotsOk, multiOk}
 use Rattle.multi.specs.ReadBack.{Fair, MultiReadsBack}
-use Rattle.multi.proofs.ImageLaws.{sum-le, length-treed, start-least, start-le, start-same, part-none, part-there, slot-none, slot-there, slots-none, slots-more}
+use Rattle.multi.proofs.ImageLaws.{length-treed, start-least, start-le, start-same, part-none, part-there, slot-none, slot-there, slots-none, slots-more}
 
 -- ---- fields of what stands side by side
 
@@ -93,13 +94,13 @@ records-at recs (suc n) c h =
 -- ---- an image of fair parts
 
 -- a fair record's length
-record-long : (r : List ℕ) → single.recordOk height.largest r ≡ true → (length r ≡ single.lengthFor (single.sizeIn r)) × (56 ≤ length r) × (length r ≤ 584)
+record-long : (r : List ℕ) → single.recordOk largestSingle r ≡ true → (length r ≡ single.lengthFor (single.sizeIn r)) × (56 ≤ length r) × (length r ≤ 584)
 record-long r ok =
-    let q = accepted height.largest r ok in
+    let q = accepted largestSingle r ok in
     let few = count-most (single.sizeIn r) (q .treed) in
     (q .exact ∙ sym (length-treed (single.sizeIn r) (q .treed)), omega (arith, q .exact), omega (arith, q .exact))
 
-part-most : (r : List ℕ) → (r ≡ []) ⊎ (single.recordOk height.largest r ≡ true) → length r ≤ 584
+part-most : (r : List ℕ) → (r ≡ []) ⊎ (single.recordOk largestSingle r ≡ true) → length r ≤ 584
 part-most r s = ⊎-elim (λ none. rw none (omega arith)) (λ ok. record-long r ok .2) s
 
 sum-most : (f : ℕ → ℕ) (m n : ℕ) → ((c : ℕ) → c < n → f c ≤ m) → sumTo n f ≤ m * n
@@ -161,7 +162,7 @@ module _ (p b d n : ℕ) (keys : List ℕ) (recs : ℕ → List ℕ) (fair : Fai
 
   start-small : (c : ℕ) → c ≤ b → startOf b lens c < 256 ^ 8
   unfolding startOf
-  start-small c h = omega (arith, sum-most lens 584 b (λ e below. part-most (recs e) (fair .each e below)), sum-le lens c b h, fair .fewBuckets)
+  start-small c h = omega (arith, sum-most lens 584 b (λ e below. part-most (recs e) (fair .each e below)), sum-mono lens c b h, fair .fewBuckets)
 
   entry-small : (c : ℕ) → c < b → entryFor b lens c < 256 ^ 8
   unfolding entryFor
@@ -203,7 +204,7 @@ module _ (p b d n : ℕ) (keys : List ℕ) (recs : ℕ → List ℕ) (fair : Fai
       ∙ sym (append-assoc (headerBytes p b d n keys ++ directoryBytes b lens b) (recordsBytes recs c) (recs c ++ q .0)) in
       (q .0, ap (λ (r : List ℕ). drop (72 + 8 * b + sumTo c lens) r) split ∙ drop-at front _ _ long)
 
-  part-there-back : (c : ℕ) → c < b → single.recordOk height.largest (recs c) ≡ true → recordPart image c ≡ recs c
+  part-there-back : (c : ℕ) → c < b → single.recordOk largestSingle (recs c) ≡ true → recordPart image c ≡ recs c
   unfolding field
   part-there-back c h ok =
       let q = record-back c h in
@@ -238,7 +239,7 @@ module _ (p b d n : ℕ) (keys : List ℕ) (recs : ℕ → List ℕ) (fair : Fai
       let at : entryIn image c ≡ startOf b lens c = entry-there c h (r .1) in
       slot-there image c (λ z. omega (arith, start-least b lens c))
       ∙ every-pass _ (eq-eqb _ _ (at ∙ sym (next-back c (omega arith))))
-      ∙ every-pass _ (ap (single.recordOk height.largest) (part-back c h) ∙ ok)
+      ∙ every-pass _ (ap (single.recordOk largestSingle) (part-back c h) ∙ ok)
       ∙ every-none)
       (fair .each c h)
 
@@ -277,28 +278,28 @@ pub bytes-none : (r : Record) → r ≡ single.noRecord → bytesOf r ≡ []
 unfolding bytesOf
 bytes-none r e = rw e
 
-pub bytes-whole : (r : Record) → Whole height.largest r → bytesOf r ≡ single.recordBytes r
+pub bytes-whole : (r : Record) → Whole largestSingle r → bytesOf r ≡ single.recordBytes r
 unfolding bytesOf
 bytes-whole r w = rw (ne-eqb (r .size) 0 (λ z. omega (arith, w .some)))
 
 -- what the parts of an image of records have
-pub each-record : (r : Record) → (r ≡ single.noRecord) ⊎ Whole height.largest r → (bytesOf r ≡ []) ⊎ (single.recordOk height.largest (bytesOf r) ≡ true)
+pub each-record : (r : Record) → (r ≡ single.noRecord) ⊎ Whole largestSingle r → (bytesOf r ≡ []) ⊎ (single.recordOk largestSingle (bytesOf r) ≡ true)
 each-record r s =
-    ⊎-elim (λ e. inl (bytes-none r e)) (λ w. inr (rw (bytes-whole r w) (record-reads-back .accepted height.largest r w))) s
+    ⊎-elim (λ e. inl (bytes-none r e)) (λ w. inr (rw (bytes-whole r w) (record-reads-back .accepted largestSingle r w))) s
 
 nothing-in : single.recordIn [] ≡ single.noRecord
 unfolding single.recordIn single.wordsIn field leNum wordAt is-odd bit height.height lib.Count.leadingZeros
 nothing-in = refl
 
-read-bytes : (r : Record) → (r ≡ single.noRecord) ⊎ Whole height.largest r → single.recordIn (bytesOf r) ≡ r
+read-bytes : (r : Record) → (r ≡ single.noRecord) ⊎ Whole largestSingle r → single.recordIn (bytesOf r) ≡ r
 read-bytes r s =
     ⊎-elim
     (λ e. ap single.recordIn (bytes-none r e) ∙ nothing-in ∙ sym e)
-    (λ w. ap single.recordIn (bytes-whole r w) ∙ record-reads-back .read height.largest r w)
+    (λ w. ap single.recordIn (bytes-whole r w) ∙ record-reads-back .read largestSingle r w)
     s
 
 records-back : (p b d n : ℕ) (keys : List ℕ) (rec : ℕ → Record) → Fair p b d n keys (λ c. bytesOf (rec c))
-    → ((c : ℕ) → c < b → (rec c ≡ single.noRecord) ⊎ Whole height.largest (rec c))
+    → ((c : ℕ) → c < b → (rec c ≡ single.noRecord) ⊎ Whole largestSingle (rec c))
     → (c : ℕ) → c < b → recordOf (multiBytes p b d n keys (λ e. bytesOf (rec e))) c ≡ rec c
 unfolding recordOf
 records-back p b d n keys rec fair all c h =

@@ -9,9 +9,9 @@ use Prim.Native.Nat.{ℕ, _+_, _%_, _^_, _≤_, _<_}
 use native.Mathlib.Omega.{arith}
 use borrow.Author.Tests.{ltb-false}
 use lib.ListN.{length, getD}
+use Rattle.words.specs.Limits.{largestSingle}
 use Rattle.words.specs.declared.Word.{Word}
 use Rattle.words.specs.Word.{On128}
-use Rattle.words.specs.Height as tree
 use Rattle.words.proofs.TestLaws.{first-clear}
 use Rattle.single.specs.Rules as rule
 use Rattle.single.specs.Calls as one
@@ -34,7 +34,7 @@ use Rattle.multi.proofs.SharesSum.{sum-placed}
 -- ---- single pairs
 
 -- what a maker's answer of 0 says of the domain
-pub one-limits : (S : ℕ) (q : AcceptedOne S) → (1 ≤ S) × (S ≤ tree.largest)
+pub one-limits : (S : ℕ) (q : AcceptedOne S) → (1 ≤ S) × (S ≤ largestSingle)
 unfolding one.generateNumber one.generateTests
 one-limits S q =
     let rows = one.generateTests S (q .α) (length (q .words)) (q .room0) (q .room1) in

@@ -18,13 +18,13 @@ use lib.ListN.{length, take, drop, getD, replicate, length-append, length-drop, 
 use lib.Seq.{length-take-le, drop-append-add, drop-drop, take-at, drop-at}
 use borrow.Author.Tests.{le-ltb, lt-leb, eq-eqb}
 use borrow.Rule.Slice.PartMut.{putMid, midOf}
+use Rattle.words.specs.Limits.{largestMulti, largestSingle, mostBuckets}
 use Rattle.words.specs.declared.Word.{Word}
-use Rattle.words.specs.Height as tree
 use Rattle.words.specs.Bytes.{put}
 use Rattle.words.specs.Cells.{tab, added, zeroed, sumTo}
 use Rattle.words.specs.Refusals.{Room, Key, Index, Table, first}
 use Rattle.words.proofs.ByteLaws.{put-nil, put-next, put-mid, put-whole, length-put}
-use Rattle.words.proofs.CellLaws.{length-tab, getD-tab, zeroed-le, sumTo-next}
+use Rattle.words.proofs.CellLaws.{length-tab, getD-tab, zeroed-le, sumTo-next, sum-same, sum-mono}
 use Rattle.words.proofs.TestLaws.{first-none, first-miss, succeeded}
 use Rattle.bucket_hash.specs.declared.Hashes.{Hashes}
 use Rattle.bucket_hash.specs.BucketHash.{bucketOf, hashesOf, bucketBy}
@@ -38,14 +38,14 @@ use Rattle.single.proofs.NodeLaws.{length-spread, getD-spread}
 use Rattle.placement.specs.declared.Spots.{Spots}
 use Rattle.placement.specs.Buckets.{sizeOf, startOf, posOf, Enters}
 use Rattle.placement.specs.Passes.{gathered}
-use Rattle.placement.specs.Calls.{largest, most, passRows, passNumber, Counting, counting, starting, Spotting, spotted, spotsOf, spotting, Gathering, gathering, gatheringOut, gatheringInto}
+use Rattle.placement.specs.Calls.{passRows, passNumber, Counting, counting, starting, Spotting, spotted, spotsOf, spotting, Gathering, gathering, gatheringOut, gatheringInto}
 use Rattle.placement.proofs.BucketLaws.{pos-lt, sizes-sum}
 use Rattle.placement.proofs.PutLaws.{put-front, put-other}
 use Rattle.multi.specs.Rules.{shareOver, cellShare, multiShare}
 use Rattle.multi.specs.Image.{bucketsIn, domainIn, keysIn, recordPart, recordOf, sizeIn, recordsBytes, multiOk}
 use Rattle.multi.specs.Calls.{sideIn, functionsIn, domainRoom}
 use Rattle.multi.specs.Reading.{Here, matchesBy, counted, bucketShares, Ready, spreadOut}
-use Rattle.multi.proofs.ImageLaws.{sum-same, sum-le, Recorded, passing}
+use Rattle.multi.proofs.ImageLaws.{Recorded, passing}
 use Rattle.multi.proofs.CallLaws.{alike-at}
 use Rattle.multi.proofs.EntryLaws.{parts-next, length-parts, gathered-share}
 
@@ -86,12 +86,12 @@ second-part n e s xs ys h lx ly =
 
 -- ---- placement's passes, where nothing is refused
 
-module _ (h : ℕ → ℕ → ℕ) (D B : ℕ) (someCells : 1 ≤ D) (fewCells : D ≤ largest) (someBuckets : 1 ≤ B) (fewBuckets : B ≤ most) (l : List ℕ) where
+module _ (h : ℕ → ℕ → ℕ) (D B : ℕ) (someCells : 1 ≤ D) (fewCells : D ≤ largestMulti) (someBuckets : 1 ≤ B) (fewBuckets : B ≤ mostBuckets) (l : List ℕ) where
   passes : (need : ℕ) (others : List (Bool × ℕ)) → need ≤ length l → first others ≡ 0 → passNumber D B (length l) need others ≡ 0
   unfolding passNumber passRows
   passes need others fits none =
-      first-miss _ _ (le-ltb D 1 someCells) ∙ first-miss _ _ (le-ltb largest D fewCells) ∙ first-miss _ _ (le-ltb B 1 someBuckets)
-      ∙ first-miss _ _ (le-ltb most B fewBuckets) ∙ first-miss _ _ (le-ltb (length l) need fits) ∙ none
+      first-miss _ _ (le-ltb D 1 someCells) ∙ first-miss _ _ (le-ltb largestMulti D fewCells) ∙ first-miss _ _ (le-ltb B 1 someBuckets)
+      ∙ first-miss _ _ (le-ltb mostBuckets B fewBuckets) ∙ first-miss _ _ (le-ltb (length l) need fits) ∙ none
 
   pub starts-done : (n : ℕ) (m : List ℕ) → B + B ≤ length l → counting n m ≡ starting h D B l
       → m ≡ put l 0 (tab (startOf h D) B ++ tab (sizeOf h D) B)
@@ -136,7 +136,7 @@ share-there H p l b y r here e =
     ap (λ (q : oneShare.Share). q .share) (e ∙ succeeded _ _ _ none)
 
 -- and its shares, where they have room
-pub spread-there : (H : Word → Word) (p : Bool) (l : List ℕ) (c : ℕ) (n : ℕ) (t m : List ℕ) → single.recordOk tree.largest (recordPart l c) ≡ true → 2 * sizeIn l c ≤ length t
+pub spread-there : (H : Word → Word) (p : Bool) (l : List ℕ) (c : ℕ) (n : ℕ) (t m : List ℕ) → single.recordOk largestSingle (recordPart l c) ≡ true → 2 * sizeIn l c ≤ length t
     → spreading n m ≡ spreadRecord H p (recordPart l c) t → m ≡ put t 0 (bucketShares H p l c)
 unfolding spreadRecord spreadNumber bucketShares recordOf sizeIn
 spread-there H p l c n t m ok fits e =
@@ -148,7 +148,7 @@ unfolding bucketShares
 length-shares H p l c = length-spread _ (sizeIn l c)
 
 -- the same of a part that is lent, said of the whole
-pub part-spread : (H : Word → Word) (p : Bool) (l : List ℕ) (c from size n : ℕ) (w m : List ℕ) → single.recordOk tree.largest (recordPart l c) ≡ true → size ≡ sizeIn l c
+pub part-spread : (H : Word → Word) (p : Bool) (l : List ℕ) (c from size n : ℕ) (w m : List ℕ) → single.recordOk largestSingle (recordPart l c) ≡ true → size ≡ sizeIn l c
     → from + 2 * sizeIn l c ≤ length w → spreading n m ≡ spreadRecord H p (recordPart l c) (midOf from (from + 2 * size - from) w)
     → putMid from (from + 2 * size - from) w m ≡ put w from (bucketShares H p l c)
 part-spread H p l c from size n w m ok same fits e =
@@ -192,7 +192,7 @@ module _ (H : Word → Word) (p : Bool) (l s : List ℕ) where
   module _ (ready : Ready l s) (c : ℕ) (below : c < bucketsIn l) where
     -- bucket c's part has room
     pub spreading-room : bucketsIn l + bucketsIn l + 2 * sumTo c (sizeIn l) + 2 * sizeIn l c ≤ length s
-    spreading-room = omega (arith, ready .room, sumTo-next c (sizeIn l), sum-le (sizeIn l) (c + 1) (bucketsIn l) (omega arith))
+    spreading-room = omega (arith, ready .room, sumTo-next c (sizeIn l), sum-mono (sizeIn l) (c + 1) (bucketsIn l) (omega arith))
 
     -- and its start still stands in front
     pub spreading-start : (w : List ℕ) → Spreading c w → getD w c 0 ≡ sumTo c (sizeIn l)
@@ -223,7 +223,7 @@ module _ (l : List ℕ) (ok : multiOk l ≡ true) where
   recorded : (c : ℕ) → c < bucketsIn l → 0 < sizeIn l c → Recorded l c
   recorded c below some = ⊎-elim (λ b. let z : ⊥ = omega (arith, b .sized) in absurd z) (λ r. r) (passing l ok .slot c below)
 
-  pub record-there : (c : ℕ) → c < bucketsIn l → (sizeIn l c ≡ 0 → ⊥) → single.recordOk tree.largest (recordPart l c) ≡ true
+  pub record-there : (c : ℕ) → c < bucketsIn l → (sizeIn l c ≡ 0 → ⊥) → single.recordOk largestSingle (recordPart l c) ≡ true
   record-there c below some = recorded c below (omega arith) .ok
 
   pub here-at : (c y : ℕ) → c < bucketsIn l → y < sizeIn l c → Here l c y

@@ -20,13 +20,14 @@ use Rattle.words.specs.Word.{Fits, On128}
 use Rattle.words.specs.Height.{height}
 use Rattle.words.proofs.CellLaws.{sumTo-next}
 use Rattle.words.proofs.WordLaws.{fits-none}
+use Rattle.words.specs.Cells.{wordNo}
 use Rattle.single.specs.Rules.{Record, made}
 use Rattle.single.specs.Record.{noRecord}
 use Rattle.single.specs.Promises.{all-nil, FitsRecord}
 use Rattle.single.proofs.MadeFits.{made-fits}
 use Rattle.placement.specs.Buckets.{sizeOf}
 use Rattle.placement.specs.Shares.{alphaOf, betaOf}
-use Rattle.multi.specs.Rules.{wordNo, wordsFor, usedBefore, wordsUsed, madeRecord}
+use Rattle.multi.specs.Rules.{wordsFor, usedBefore, wordsUsed, madeRecord}
 use Rattle.multi.specs.Promises.{RecordsMade}
 
 -- ---- one record

@@ -12,6 +12,7 @@ use native.Mathlib.Omega.{arith}
 use lib.Dec.{eqb}
 use lib.ListN.{getD, length}
 use Rattle.words.specs.declared.Word.{Word}
+use Rattle.words.specs.Cells.{wordNo}
 use Rattle.single.specs.Rules.{share, point}
 use Rattle.single.proofs.SharesSum as one
 use Rattle.placement.specs.Buckets.{sizeOf, posOf, Enters}
@@ -20,7 +21,7 @@ use Rattle.placement.specs.Shares.{once3, overBuckets, atPoints, posted, alphaO
 use Rattle.placement.proofs.BucketLaws.{pos-lt, size-le}
 use Rattle.placement.proofs.ShareLaws.{alpha-none, alpha-held, sum-shares}
 use Rattle.placement.proofs.WalkLaws.{placed}
-use Rattle.multi.specs.Rules.{shareOver, cellShare, multiShare, wordNo, usedBefore, madeRecord, madeShare}
+use Rattle.multi.specs.Rules.{shareOver, cellShare, multiShare, usedBefore, madeRecord, madeShare}
 use Rattle.multi.specs.Promises.{SharesSum}
 use Rattle.multi.proofs.RecordsMade.{made-some}
 

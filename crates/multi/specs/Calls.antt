@@ -20,6 +20,7 @@ use mathlib.Core.List.{List, [], _∷_, _++_}
 use Prim.Native.Nat.{ℕ, zero, suc, _+_, _*_}
 use lib.Dec.{eqb, leb, ltb}
 use lib.ListN.{length}
+use Rattle.words.specs.Limits.{largestMulti, mostBuckets}
 use Rattle.words.specs.declared.Word.{Word}
 use Rattle.words.specs.Bytes.{put}
 use Rattle.words.specs.Cells.{tab, added, zeroed}
@@ -28,7 +29,7 @@ use Rattle.single.specs.Rules.{Record}
 use Rattle.single.specs.Record.{lengthFor}
 use Rattle.placement.specs.Buckets.{sizeOf}
 use Rattle.placement.specs.Shares.{risingFrom}
-use Rattle.placement.specs.Calls.{largest, most, walkIn}
+use Rattle.placement.specs.Calls.{walkIn}
 use Rattle.multi.specs.declared.calls.Generated.{Generated}
 use Rattle.multi.specs.declared.calls.Share.{Share}
 use Rattle.multi.specs.Rules.{multiShare, pairs, wordsUsed, madeRecord}
@@ -59,9 +60,9 @@ imageLength h D B = multiLength B (λ c. lengthFor (sizeOf h D c))
 abbrev pub generateEarly : Given → ℕ → List (Bool × ℕ)
 generateEarly g scratch =
     (ltb (g .domain) 1, Domain)
-    ∷ (ltb largest (g .domain), Domain)
+    ∷ (ltb largestMulti (g .domain), Domain)
     ∷ (ltb (g .buckets) 1, Buckets)
-    ∷ (ltb most (g .buckets), Buckets)
+    ∷ (ltb mostBuckets (g .buckets), Buckets)
     ∷ (ltb (length (g .points)) 1, Count)
     ∷ (ltb (g .buckets) (length (g .points)), Count)
     ∷ (not (eqb (length (g .values)) (length (g .points))), Count)

@@ -7,6 +7,7 @@
 --     Pair D                what a maker was given and did not refuse, for D cells
 --     postedBy, imageOf     the value that a pair posts at a cell; party p's image
 --     PairsAddUp            demand 3 for lists of pairs of either kind
+--     OwnPairsAddUp         the same of the library's own tree hash and bucket functions: nothing is left to assume
 --     MadeIsTaken           a made image is taken where table and scratch fit, so that the runs which demand 3 speaks of are there
 -- Assumes nothing.
 use mathlib.Core.Path.{_≡_}
@@ -14,14 +15,16 @@ use mathlib.Core.Bool.{Bool}
 use mathlib.Core.List.{List, map}
 use Prim.Native.Nat.{ℕ, _+_, _*_, _≤_}
 use lib.ListN.{length}
+use Rattle.words.specs.Limits.{mostBuckets}
 use Rattle.words.specs.declared.Word.{Word}
 use Rattle.words.specs.Word.{On128}
+use Rattle.words.specs.Bytes.{Halves}
+use Rattle.cipher.specs.TreeHash.{treeHash}
+use Rattle.bucket_hash.specs.BucketHash.{bucketOf}
 use Rattle.single.specs.Calls as one
 use Rattle.single.specs.Rules as rule
-use Rattle.single.specs.Demand.{Halves}
 use Rattle.single.specs.Tables.{Call, after, taken as takenBy, Demand3}
 use Rattle.placement.specs.Shares.{posted}
-use Rattle.placement.specs.Calls.{most}
 use Rattle.multi.specs.Calls.{Given, imageMade, addToNumber, addTo, shareIn}
 use Rattle.multi.specs.Promises.{Below, Accepted, calls}
 
@@ -79,7 +82,7 @@ module _ (H : Word → Word) (bucket : List ℕ → ℕ → ℕ → ℕ → ℕ)
   roomFor D (onePoint q) = 2 * D
   roomFor D (manyPoints g a e) = 6 * D + 2 * g .buckets
 
--- for every tree hash on words of 128 bits, all bucket functions, and tables of any number of cells
+-- for every tree hash on words of 128 bits, any functions into the buckets, and tables of any number of cells
 abbrev pub PairsAddUp : Type 0
 PairsAddUp = (H : Word → Word) → On128 H → (bucket : List ℕ → ℕ → ℕ → ℕ → ℕ) → Below bucket → (D : ℕ)
     → Demand3 (answerOf H bucket) 64 (shareOf H bucket) (imageOf H bucket D) (postedBy H bucket D) D
@@ -89,5 +92,9 @@ pub record MadeIsTaken : Type 0 where
       → length t ≡ D → roomFor H bucket D q ≤ room → answerOf H bucket (imageOf H bucket D p q) t room ≡ 0
   -- a run over any list of pairs, with the scratch that the most buckets need, takes each image of a party, in their order
   pub runs : (H : Word → Word) → On128 H → (bucket : List ℕ → ℕ → ℕ → ℕ → ℕ) → Below bucket → (D room : ℕ) (p : Bool) (qs : List (Pair H bucket D)) (t : List ℕ)
-      → length t ≡ D → 6 * D + 2 * most ≤ room
+      → length t ≡ D → 6 * D + 2 * mostBuckets ≤ room
       → takenBy (answerOf H bucket) 64 (shareOf H bucket) (calls (imageOf H bucket D p) room qs) t ≡ map (imageOf H bucket D p) qs
+
+-- the library's own tree hash and bucket functions: nothing is left to assume
+abbrev pub OwnPairsAddUp : Type 0
+OwnPairsAddUp = (D : ℕ) → Demand3 (answerOf treeHash bucketOf) 64 (shareOf treeHash bucketOf) (imageOf treeHash bucketOf D) (postedBy treeHash bucketOf D) D

@@ -24,11 +24,10 @@ use mathlib.Core.List.{List, [], _∷_, _++_}
 use Prim.Native.Nat.{ℕ, zero, suc, _+_, _*_}
 use lib.Dec.{leb, eqb}
 use lib.ListN.{length, take, drop, getD}
+use Rattle.words.specs.Limits.{largestMulti, largestSingle, mostBuckets}
 use Rattle.words.specs.Bytes.{leBytes, field}
 use Rattle.words.specs.Cells.{sumTo}
-use Rattle.words.specs.Height as height
 use Rattle.words.specs.Refusals.{Key, Index, every, first, onSuccess}
-use Rattle.placement.specs.Calls.{largest, most}
 use Rattle.single.specs.Rules.{Record}
 use Rattle.single.specs.Record as single
 use Rattle.multi.specs.declared.image.RecordPlace.{RecordPlace}
@@ -113,9 +112,9 @@ unfoldable pub headerTests : ℕ → ℕ → ℕ → ℕ → ℕ → ℕ → Lis
 headerTests party b d n offset len =
     leb party 1
     ∷ leb 1 b
-    ∷ leb b most
+    ∷ leb b mostBuckets
     ∷ leb 1 d
-    ∷ leb d largest
+    ∷ leb d largestMulti
     ∷ leb 1 n
     ∷ leb n b
     ∷ eqb offset 72
@@ -131,7 +130,7 @@ nextIn l c = startOf (bucketsIn l) (lengths (recordPart l)) c
 
 -- an entry is 0, or where the next record begins; and what begins there is a record
 unfoldable pub slotOk : List ℕ → ℕ → Bool
-slotOk l c = cond (eqb (entryIn l c) 0) true (every (eqb (entryIn l c) (nextIn l c) ∷ single.recordOk height.largest (recordPart l c) ∷ []))
+slotOk l c = cond (eqb (entryIn l c) 0) true (every (eqb (entryIn l c) (nextIn l c) ∷ single.recordOk largestSingle (recordPart l c) ∷ []))
 
 unfoldable pub slotsOk : List ℕ → ℕ → Bool
 slotsOk l zero = true

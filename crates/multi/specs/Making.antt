@@ -14,17 +14,17 @@ use mathlib.Core.List.{List, [], _∷_}
 use Prim.Native.Nat.{ℕ, zero, suc, _+_, _/_, _≤_}
 use lib.Dec.{eqb, ltb}
 use lib.ListN.{length, getD}
+use Rattle.words.specs.Limits.{largestSingle, mostBuckets}
 use Rattle.words.specs.declared.Word.{Word}
 use Rattle.words.specs.Bytes.{put}
-use Rattle.words.specs.Cells.{sumTo}
+use Rattle.words.specs.Cells.{sumTo, wordNo}
 use Rattle.words.specs.Refusals.{Words, Room, first, onSuccess}
-use Rattle.words.specs.Height.{largest}
-use Rattle.placement.specs.Calls.{most, walkIn}
+use Rattle.placement.specs.Calls.{walkIn}
 use Rattle.single.specs.Rules.{Record, made}
 use Rattle.single.specs.Record.{noRecord}
 use Rattle.multi.specs.declared.make.Totals.{Totals}
 use Rattle.multi.specs.declared.calls.Generated.{Generated}
-use Rattle.multi.specs.Rules.{wordNo, wordsFor, wordsUsed}
+use Rattle.multi.specs.Rules.{wordsFor, wordsUsed}
 use Rattle.multi.specs.Image.{multiLength, lengthsBy, bytesOf, multiBytes}
 use Rattle.multi.specs.Calls.{Given, imageLength, functions, generateLate, imageMade}
 
@@ -39,8 +39,8 @@ totalsOf sizes = record { used = usedBy sizes (length sizes); bytes = multiLengt
 
 -- there are few sizes, each within the limit, and two buffers have room for their image
 pub record Fitting (sizes : List ℕ) (room0 room1 : ℕ) : Type 0 where
-  pub few : length sizes ≤ most
-  pub small : (c : ℕ) → getD sizes c 0 ≤ largest
+  pub few : length sizes ≤ mostBuckets
+  pub small : (c : ℕ) → getD sizes c 0 ≤ largestSingle
   pub first : multiLength (length sizes) (lengthsBy sizes) ≤ room0
   pub second : multiLength (length sizes) (lengthsBy sizes) ≤ room1
 

@@ -9,10 +9,13 @@ use mathlib.Core.Path.{_≡_}
 use mathlib.Core.Bool.{Bool, true, false}
 use mathlib.Core.List.{List, map}
 use Prim.Native.Nat.{ℕ, _+_, _*_, _-_, _%_, _^_, _≤_, _<_}
-use lib.ListN.{length, getD}
+use lib.ListN.{length}
 use Rattle.words.specs.declared.Word.{Word}
+use Rattle.words.specs.Bytes.{Halves}
 use Rattle.words.specs.Word.{On128}
 use Rattle.words.specs.Height.{height}
+use Rattle.cipher.specs.TreeHash.{treeHash}
+use Rattle.bucket_hash.specs.BucketHash.{bucketOf}
 use Rattle.single.specs.Rules.{Record}
 use Rattle.single.specs.Tables.{Demand3, Call, taken}
 use Rattle.single.specs.Promises.{FitsRecord}
@@ -49,7 +52,7 @@ pub record RecordsMade : Type 0 where
   pub counted : (H : Word → Word) (w : ℕ) (h : ℕ → ℕ → ℕ) (D : ℕ) (pts vs t ws : List ℕ) (p : Bool) (b : ℕ)
       → 0 < sizeOf h D b → length (madeRecord H w h D pts vs t ws p b .cws) ≡ height (sizeOf h D b) - 1
   -- for every tree hash on words of 128 bits, and words given as u64: every word fits, and the last word is below 2 ^ w
-  pub fits : (H : Word → Word) → On128 H → (w : ℕ) (h : ℕ → ℕ → ℕ) (D : ℕ) (pts vs t ws : List ℕ) → ((i : ℕ) → getD ws i 0 < 2 ^ 64)
+  pub fits : (H : Word → Word) → On128 H → (w : ℕ) (h : ℕ → ℕ → ℕ) (D : ℕ) (pts vs t ws : List ℕ) → Halves ws
       → (p : Bool) (b : ℕ) → FitsRecord w (madeRecord H w h D pts vs t ws p b)
   -- the words of bucket b are among all that are used, and no other bucket before or behind it uses them
   pub apart : (h : ℕ → ℕ → ℕ) (D B b c : ℕ) → b < c → c < B
@@ -69,7 +72,7 @@ pub record Accepted (bucket : List ℕ → ℕ → ℕ → ℕ → ℕ) (g : Giv
   pub room1 : ℕ
   pub number : generateNumber bucket g scratch room0 room1 ≡ 0
   pub keyed : length (g .keys) ≡ 48
-  pub worded : (i : ℕ) → getD (g .words) i 0 < 2 ^ 64
+  pub worded : Halves (g .words)
 
 -- the share of cell x by the records that the walk's table gives
 abbrev pub shareBy : (Word → Word) → (List ℕ → ℕ → ℕ → ℕ → ℕ) → Given → Bool → ℕ → ℕ
@@ -96,6 +99,10 @@ pub record ReadBack (H : Word → Word) (bucket : List ℕ → ℕ → ℕ → �
 abbrev pub MadeKeysRead : Type 0
 MadeKeysRead = (H : Word → Word) → On128 H → (bucket : List ℕ → ℕ → ℕ → ℕ → ℕ) → Below bucket
     → (g : Given) → Accepted bucket g → (p : Bool) → ReadBack H bucket g p
+
+-- the library's own tree hash and bucket functions: nothing is left to assume
+abbrev pub OwnKeysRead : Type 0
+OwnKeysRead = (g : Given) → Accepted bucketOf g → (p : Bool) → ReadBack treeHash bucketOf g p
 
 -- ---- demand 3
 

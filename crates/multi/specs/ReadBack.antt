@@ -9,8 +9,7 @@ use mathlib.Core.List.{List, []}
 use mathlib.Core.Logic.{_⊎_}
 use Prim.Native.Nat.{ℕ, _≤_, _<_}
 use lib.ListN.{length}
-use Rattle.words.specs.Height as height
-use Rattle.placement.specs.Calls.{largest, most}
+use Rattle.words.specs.Limits.{largestMulti, largestSingle, mostBuckets}
 use Rattle.single.specs.Rules.{Record}
 use Rattle.single.specs.Record as single
 use Rattle.single.specs.ReadBack.{Whole}
@@ -19,13 +18,13 @@ use Rattle.multi.specs.Image.{multiLength, entryFor, lengths, multiBytes
 pub record Fair (party b d n : ℕ) (keys : List ℕ) (recs : ℕ → List ℕ) : Type 0 where
   pub aParty : party ≤ 1
   pub someBuckets : 1 ≤ b
-  pub fewBuckets : b ≤ most
+  pub fewBuckets : b ≤ mostBuckets
   pub someCells : 1 ≤ d
-  pub fewCells : d ≤ largest
+  pub fewCells : d ≤ largestMulti
   pub somePoints : 1 ≤ n
   pub fewPoints : n ≤ b
   pub keyed : length keys ≡ 48
-  pub each : (c : ℕ) → c < b → (recs c ≡ []) ⊎ (single.recordOk height.largest (recs c) ≡ true)
+  pub each : (c : ℕ) → c < b → (recs c ≡ []) ⊎ (single.recordOk largestSingle (recs c) ≡ true)
 
 pub record MultiReadsBack : Type 0 where
   pub accepted : (p b d n : ℕ) (keys : List ℕ) (recs : ℕ → List ℕ) → Fair p b d n keys recs → multiOk (multiBytes p b d n keys recs) ≡ true
@@ -42,5 +41,5 @@ pub record MultiReadsBack : Type 0 where
       → recordPart (multiBytes p b d n keys recs) c ≡ recs c
   -- of records: whole ones, or one of size 0 for a bucket that has none
   pub records : (p b d n : ℕ) (keys : List ℕ) (rec : ℕ → Record) → Fair p b d n keys (λ c. bytesOf (rec c))
-      → ((c : ℕ) → c < b → (rec c ≡ single.noRecord) ⊎ Whole height.largest (rec c))
+      → ((c : ℕ) → c < b → (rec c ≡ single.noRecord) ⊎ Whole largestSingle (rec c))
       → (c : ℕ) → c < b → recordOf (multiBytes p b d n keys (λ e. bytesOf (rec e))) c ≡ rec c

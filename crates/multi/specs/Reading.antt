@@ -2,36 +2,37 @@
 -- give, s scratch as it came.
 --     Here l b y              bucket b has a record, and y is an index of it
 --     matchesBy, found        whether every record has its bucket's size; 0 or Mismatch
+--     shareBy H h l x         the share of cell x
 --     sized h l s             scratch with the sizes of all buckets in front
 --     cellFound H h l x       what one cell answers, with the sizes in scratch
 --     counted h l s           scratch with the start of each bucket in front, and behind that its size
 --     bucketShares H l c      the shares of bucket c's record, two elements each
 --     Ready l s               the starts stand in front, and there is room behind 2B elements for all entries
 --     laid H h l s            what is left in scratch for the sums: behind starts and sizes the shares of all buckets
+--     cellsPut, cellsAdded    where the sizes match, the shares of all cells in front of o, or each added to its cell of t
 -- Assumes nothing.
 use mathlib.Core.Path.{_≡_}
 use mathlib.Core.Bool.{Bool, true, cond}
 use mathlib.Core.List.{List, _++_}
 use Prim.Native.Nat.{ℕ, _+_, _*_, _≤_, _<_}
 use lib.ListN.{length, getD}
+use Rattle.words.specs.Limits.{largestSingle, mostBuckets}
 use Rattle.words.specs.declared.Word.{Word}
-use Rattle.words.specs.Height as tree
 use Rattle.words.specs.Bytes.{put}
-use Rattle.words.specs.Cells.{tab, sumTo}
+use Rattle.words.specs.Cells.{tab, added, sumTo}
 use Rattle.words.specs.Refusals.{Mismatch}
 use Rattle.single.specs.Rules.{share}
 use Rattle.single.specs.Nodes.{spread}
 use Rattle.single.specs.Record.{recordOk}
 use Rattle.placement.specs.Buckets.{sizeOf, startOf}
-use Rattle.placement.specs.Calls.{most}
 use Rattle.multi.specs.declared.calls.Share.{Share}
 use Rattle.multi.specs.Rules.{multiShare}
 use Rattle.multi.specs.Image.{bucketsIn, domainIn, recordPart, recordOf, sizeIn, recordsBytes}
 use Rattle.multi.specs.Calls.{sideIn, alike}
 
 pub record Here (l : List ℕ) (b y : ℕ) : Type 0 where
-  pub few : b ≤ most
-  pub ok : recordOk tree.largest (recordPart l b) ≡ true
+  pub few : b ≤ mostBuckets
+  pub ok : recordOk largestSingle (recordPart l b) ≡ true
   pub inside : y < sizeIn l b
 
 abbrev pub matchesBy : (ℕ → ℕ → ℕ) → List ℕ → Bool
@@ -40,13 +41,16 @@ matchesBy h l = alike (sizeIn l) (sizeOf h (domainIn l)) (bucketsIn l)
 abbrev pub found : (ℕ → ℕ → ℕ) → List ℕ → ℕ
 found h l = cond (matchesBy h l) 0 Mismatch
 
+abbrev pub shareBy : (Word → Word) → (ℕ → ℕ → ℕ) → List ℕ → ℕ → ℕ
+shareBy H h l = multiShare H 64 (sideIn l) (recordOf l) h (domainIn l)
+
 -- ---- one cell
 
 unfoldable pub sized : (ℕ → ℕ → ℕ) → List ℕ → List ℕ → List ℕ
 sized h l s = put s 0 (tab (sizeOf h (domainIn l)) (bucketsIn l))
 
 unfoldable pub cellFound : (Word → Word) → (ℕ → ℕ → ℕ) → List ℕ → ℕ → Share
-cellFound H h l x = record { number = found h l; share = cond (matchesBy h l) (multiShare H 64 (sideIn l) (recordOf l) h (domainIn l) x) 0 }
+cellFound H h l x = record { number = found h l; share = cond (matchesBy h l) (shareBy H h l x) 0 }
 
 -- ---- all cells
 
@@ -66,3 +70,9 @@ spreadOut H p l n s = put s (bucketsIn l + bucketsIn l) (recordsBytes (bucketSha
 
 unfoldable pub laid : (Word → Word) → (ℕ → ℕ → ℕ) → List ℕ → List ℕ → List ℕ
 laid H h l s = cond (matchesBy h l) (spreadOut H (sideIn l) l (bucketsIn l) (counted h l s)) (counted h l s)
+
+unfoldable pub cellsPut : (Word → Word) → (ℕ → ℕ → ℕ) → List ℕ → List ℕ → List ℕ
+cellsPut H h l o = cond (matchesBy h l) (put o 0 (tab (shareBy H h l) (domainIn l))) o
+
+unfoldable pub cellsAdded : (Word → Word) → (ℕ → ℕ → ℕ) → List ℕ → List ℕ → List ℕ
+cellsAdded H h l t = cond (matchesBy h l) (added 64 (shareBy H h l) t) t

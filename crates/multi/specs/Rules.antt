@@ -16,7 +16,7 @@ use Prim.Native.Nat.{ℕ, _+_, _*_, _/_, _%_, _^_, min}
 use lib.Dec.{eqb}
 use lib.ListN.{getD, length}
 use Rattle.words.specs.declared.Word.{Word}
-use Rattle.words.specs.Cells.{sumTo}
+use Rattle.words.specs.Cells.{sumTo, wordNo}
 use Rattle.single.specs.Rules.{Record, made, share}
 pub use Rattle.single.specs.Record.{noRecord}
 use Rattle.placement.specs.Buckets.{sizeOf, posOf}
@@ -39,9 +39,6 @@ module _ (H : Word → Word) (w : ℕ) (p : Bool) (rec : ℕ → Record) where
 -- ---- random words
 
 -- two u64, low half first
-unfoldable pub wordNo : List ℕ → ℕ → Word
-wordNo ws i = record { lo = getD ws (2 * i) 0; hi = getD ws (2 * i + 1) 0 }
-
 -- an odd last element is ignored
 abbrev pub pairs : List ℕ → ℕ
 pairs ws = length ws / 2

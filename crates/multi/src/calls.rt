@@ -1,8 +1,7 @@
 // The public calls of multi keys: making a pair, one cell, all cells, and adding to a table.
 // Rules: document 01, "Refusal numbers". Source: dpf/src/mpdpf.rs for the first three; the adding call is ours.
 // Each promise is one equation: the answer and every lent slice at exit, together, are the function of specs/Calls.antt of what the
-// call was given.
-
+// call was given. A refusal leaves every slice as it was, but for scratch on 6, 7, 8 and 12, which is zeroed.
 ghost use mathlib.Core.Path.{_≡_};
 ghost use Rattle.cipher.specs.TreeHash.{treeHash};
 ghost use Rattle.bucket_hash.specs.BucketHash.{bucketOf};
@@ -11,7 +10,6 @@ use crate::image;
 use crate::make;
 use crate::read;
 use bucket_hash::Hashes;
-use placement::gather;
 use words::cells as slices;
 
 // What making answers: 0, the length of either image, the random words used and all evictions; or a refusal's number and zeros.
@@ -95,20 +93,9 @@ pub fn evaluate_domain(key: &[u8], scratch: &mut [u64], out: &mut [u64]) -> u64
     }
     let need = read::domain_room(key) as usize;
     let hashes = Hashes::new(image::hash_keys(key));
-    let found = read::lay_shares(hashes, key, scratch);
-    if found != 0 {
-        slices::zero_first(scratch, need);
-        return found;
-    }
-    gather::gather(
-        hashes,
-        image::domain(key),
-        image::buckets(key),
-        scratch,
-        out,
-    );
+    let found = read::put_cells(hashes, key, scratch, out);
     slices::zero_first(scratch, need);
-    0
+    found
 }
 
 // ---- adding to a table
@@ -125,18 +112,7 @@ pub fn add_to(key: &[u8], scratch: &mut [u64], table: &mut [u64]) -> u64
     }
     let need = read::domain_room(key) as usize;
     let hashes = Hashes::new(image::hash_keys(key));
-    let found = read::lay_shares(hashes, key, scratch);
-    if found != 0 {
-        slices::zero_first(scratch, need);
-        return found;
-    }
-    gather::gather_into(
-        hashes,
-        image::domain(key),
-        image::buckets(key),
-        scratch,
-        table,
-    );
+    let found = read::add_cells(hashes, key, scratch, table);
     slices::zero_first(scratch, need);
-    0
+    found
 }

@@ -6,21 +6,16 @@ ghost use mathlib.Core.List.{[], _∷_};
 ghost use Prim.Native.Nat.{_+_, _*_, _≤_, _<_};
 ghost use lib.Dec.{eqb};
 ghost use lib.ListN.{length};
+ghost use Rattle.words.specs.Limits.{mostBuckets};
 ghost use Rattle.words.specs.Refusals.{every};
-ghost use Rattle.placement.specs.Calls.{most};
 ghost use Rattle.single.specs.Record as single-record;
 ghost use Rattle.multi.specs.Image as spec;
 use single::record::record_length;
 use single::record::record_ok;
 use words::bytes;
+use words::limits;
 use words::refusals;
 
-// The most buckets.
-const MOST: u64 = 65535;
-// The largest domain: 2^32 - 1 cells.
-const LARGEST: u64 = 0xffff_ffff;
-// The largest record: 2^34 cells, since one cell may enter a bucket three times.
-const LARGEST_RECORD: u64 = 0x4_0000_0000;
 // Where the directory begins.
 const DIRECTORY: u64 = 72;
 
@@ -75,13 +70,13 @@ fn numbers_ok(party: u64, b: u64, d: u64, n: u64, offset: u64, len: u64) -> bool
     if b < 1 {
         return false;
     }
-    if MOST < b {
+    if limits::MOST_BUCKETS < b {
         return false;
     }
     if d < 1 {
         return false;
     }
-    if LARGEST < d {
+    if limits::LARGEST_MULTI < d {
         return false;
     }
     if n < 1 {
@@ -118,7 +113,7 @@ fn header_ok(key: &[u8]) -> bool
 
 // The entry of bucket c.
 fn entry(key: &[u8], c: usize) -> u64
-    requires { ⌜ c ≤ most ⌝ }
+    requires { ⌜ c ≤ mostBuckets ⌝ }
     ensures { λ r. ⌜ r ≡ spec.entryIn (now (key .entry)) c ⌝ }
 {
     bytes::get_u64(key, 72 + 8 * c)
@@ -142,7 +137,7 @@ fn part_at(key: &[u8], at: usize) -> &[u8]
 
 // The part of the image that is bucket c's record; empty where it has none.
 pub(crate) fn part(key: &[u8], c: usize) -> &[u8]
-    requires { ⌜ c ≤ most ⌝ }
+    requires { ⌜ c ≤ mostBuckets ⌝ }
     ensures { λ r. ⌜ now r ≡ spec.recordPart (now (key .entry)) c ⌝ }
 {
     let e = entry(key, c);
@@ -154,7 +149,7 @@ pub(crate) fn part(key: &[u8], c: usize) -> &[u8]
 
 // The size of bucket c's record; 0 where it has none.
 pub(crate) fn size(key: &[u8], c: usize) -> u64
-    requires { ⌜ c ≤ most ⌝ }
+    requires { ⌜ c ≤ mostBuckets ⌝ }
     ensures { λ r. ⌜ r ≡ spec.sizeIn (now (key .entry)) c ⌝ }
 {
     bytes::get_u64(part(key, c), 0)
@@ -164,7 +159,7 @@ pub(crate) fn size(key: &[u8], c: usize) -> u64
 
 // Where the record behind bucket c's has to begin, if bucket c's has to begin at `at`; 0 where the slot of bucket c is not ok.
 fn next_start(key: &[u8], c: usize, at: usize) -> usize
-    requires { ⌜ c ≤ most ⌝ }
+    requires { ⌜ c ≤ mostBuckets ⌝ }
     requires { ⌜ at ≡ spec.nextIn (now key) c ⌝ }
     ensures { λ r. ⌜ r ≡ cond (spec.slotOk (now (key .entry)) c) (spec.nextIn (now (key .entry)) (c + 1)) 0 ⌝ }
 {
@@ -176,7 +171,7 @@ fn next_start(key: &[u8], c: usize, at: usize) -> usize
         return 0;
     }
     let record = part_at(key, at);
-    if record_ok(record, LARGEST_RECORD) {
+    if record_ok(record, limits::LARGEST_SINGLE) {
         return at + record.len();
     }
     0
@@ -184,7 +179,7 @@ fn next_start(key: &[u8], c: usize, at: usize) -> usize
 
 // Whether every slot is ok, and the last record ends the image.
 fn slots_ok(key: &[u8], n: usize) -> bool
-    requires { ⌜ (n ≡ spec.bucketsIn (now key)) × (n ≤ most) ⌝ }
+    requires { ⌜ (n ≡ spec.bucketsIn (now key)) × (n ≤ mostBuckets) ⌝ }
     ensures { λ r. ⌜ r ≡ every (spec.slotsOk (now (key .entry)) n ∷ eqb (spec.nextIn (now (key .entry)) n) (length (now (key .entry))) ∷ []) ⌝ }
 {
     let mut at: usize = 72 + 8 * n;

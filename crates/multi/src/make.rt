@@ -5,13 +5,12 @@ ghost use mathlib.Core.Bool.{true, false};
 ghost use mathlib.Core.List.{[], _++_};
 ghost use Prim.Native.Nat.{ℕ, _+_, _*_, _^_, _≤_, _<_};
 ghost use lib.ListN.{length, take, drop, getD};
+ghost use Rattle.words.specs.Limits.{largestSingle, mostBuckets};
 ghost use Rattle.words.specs.Bytes.{put};
-ghost use Rattle.words.specs.Height as height;
 ghost use Rattle.words.specs.Refusals.{first};
 ghost use Rattle.cipher.specs.TreeHash.{hashBy, treeHash};
 ghost use Rattle.bucket_hash.specs.BucketHash.{bucketOf};
 ghost use Rattle.single.specs.Record as single-record;
-ghost use Rattle.placement.specs.Calls.{most};
 ghost use Rattle.multi.specs.Rules as rule;
 ghost use Rattle.multi.specs.Image as image;
 ghost use Rattle.multi.specs.Calls as call;
@@ -26,12 +25,10 @@ use single::pairs::make_keys;
 use single::record::put_record;
 use single::record::record_length;
 use words::Word;
+use words::cells::element;
+use words::cells::word_no;
+use words::limits;
 use words::refusals;
-
-// The most buckets.
-const MOST: u64 = 65535;
-// The largest domain: 2^32 - 1 cells.
-const LARGEST: u64 = 0xffff_ffff;
 
 // The random words that all records use, and the bytes of either image.
 struct Totals {
@@ -41,16 +38,6 @@ struct Totals {
 
 // ---- what a bucket's record is made of
 
-// Element i; 0 behind the end.
-fn element(list: &[u64], i: usize) -> u64
-    ensures { λ r. ⌜ r ≡ getD (now (list .entry)) i 0 ⌝ }
-{
-    if i < list.len() {
-        return list[i];
-    }
-    0
-}
-
 // The value of the point that a holder names; 0 for none.
 fn value_of(values: &[u64], holder: u64) -> u64
     ensures { λ r. ⌜ r ≡ spec.valueAt (now (values .entry)) holder ⌝ }
@@ -59,16 +46,6 @@ fn value_of(values: &[u64], holder: u64) -> u64
         return 0;
     }
     element(values, (holder - 1) as usize)
-}
-
-// Random word i: two elements, low half first.
-fn word_no(words: &[u64], i: usize) -> Word
-    requires { ⌜ i < 2 ^ 32 ⌝ }
-    ensures { λ r. ⌜ r ≡ rule.wordNo (now (words .entry)) i ⌝ }
-{
-    let lo = element(words, 2 * i);
-    let hi = element(words, 2 * i + 1);
-    Word { lo, hi }
 }
 
 // The random words that a record of this size uses.
@@ -83,7 +60,7 @@ fn words_for(size: u64) -> u64
 
 // What the records of these sizes use and take up.
 fn sum_up(sizes: &[u64]) -> Totals
-    requires { ⌜ length (now sizes) ≤ most ⌝ }
+    requires { ⌜ length (now sizes) ≤ mostBuckets ⌝ }
     ensures { λ r. ⌜ r ≡ spec.totalsOf (now (sizes .entry)) ⌝ }
 {
     let b = sizes.len();
@@ -113,7 +90,7 @@ fn put_pair(
     key0: &mut [u8],
     key1: &mut [u8],
 )
-    requires { ⌜ (size ≤ height.largest) × (at + single-record.lengthFor size ≤ length (now key0)) × (at + single-record.lengthFor size ≤ length (now key1)) ⌝ }
+    requires { ⌜ (size ≤ largestSingle) × (at + single-record.lengthFor size ≤ length (now key0)) × (at + single-record.lengthFor size ≤ length (now key1)) ⌝ }
     ensures first { λ _. ⌜ now (key0 .exit) ≡ put (now (key0 .entry)) at (image.bytesOf (spec.recordBy (hashBy h) size alpha beta r0 r1 false)) ⌝ }
     ensures second { λ _. ⌜ now (key1 .exit) ≡ put (now (key1 .entry)) at (image.bytesOf (spec.recordBy (hashBy h) size alpha beta r0 r1 true)) ⌝ }
 {
@@ -141,7 +118,7 @@ fn put_bucket(
     key0: &mut [u8],
     key1: &mut [u8],
 )
-    requires { ⌜ (used < 2 ^ 31) × (getD (now sizes) c 0 ≤ height.largest)
+    requires { ⌜ (used < 2 ^ 31) × (getD (now sizes) c 0 ≤ largestSingle)
         × (at + single-record.lengthFor (getD (now sizes) c 0) ≤ length (now key0)) × (at + single-record.lengthFor (getD (now sizes) c 0) ≤ length (now key1)) ⌝ }
     ensures first { λ _. ⌜ now (key0 .exit) ≡ put (now (key0 .entry)) at (image.bytesOf (spec.recordFrom (hashBy h)
         (now (holders .entry)) (now (sizes .entry)) (now (spots .entry)) (now (values .entry)) (now (words .entry)) used false c)) ⌝ }
@@ -202,7 +179,7 @@ fn put_records(
 
 // A party's header and directory.
 fn put_front(party: u32, domain: u64, count: u32, keys: [u8; 48], sizes: &[u64], buf: &mut [u8])
-    requires { ⌜ (length (now sizes) ≤ most) × (image.multiLength (length (now sizes)) (image.lengthsBy (now sizes)) ≤ length (now buf)) ⌝ }
+    requires { ⌜ (length (now sizes) ≤ mostBuckets) × (image.multiLength (length (now sizes)) (image.lengthsBy (now sizes)) ≤ length (now buf)) ⌝ }
     ensures { λ _. ⌜ now (buf .exit) ≡ put (now (buf .entry)) 0 (image.headerBytes party (length (now (sizes .entry))) domain count keys
         ++ image.directoryBytes (length (now (sizes .entry))) (image.lengthsBy (now (sizes .entry))) (length (now (sizes .entry)))) ⌝ }
 {
@@ -259,13 +236,13 @@ pub(crate) fn generate_number(
     if domain < 1 {
         return refusals::DOMAIN;
     }
-    if LARGEST < domain {
+    if limits::LARGEST_MULTI < domain {
         return refusals::DOMAIN;
     }
     if buckets < 1 {
         return refusals::BUCKETS;
     }
-    if MOST < buckets {
+    if limits::MOST_BUCKETS < buckets {
         return refusals::BUCKETS;
     }
     let n = points.len();
@@ -331,7 +308,7 @@ fn write_laid(
     key0: &mut [u8],
     key1: &mut [u8],
 ) -> Generated
-    requires { ⌜ (length (now sizes) ≤ most) × ((c : ℕ) → getD (now sizes) c 0 ≤ height.largest) ⌝ }
+    requires { ⌜ (length (now sizes) ≤ mostBuckets) × ((c : ℕ) → getD (now sizes) c 0 ≤ largestSingle) ⌝ }
     ensures { λ r. ⌜ spec.writing r (now (key0 .exit)) (now (key1 .exit)) ≡ spec.writeLaid treeHash domain count keys (now (holders .entry))
         (now (sizes .entry)) (now (spots .entry)) (now (values .entry)) (now (words .entry)) evictions (now (key0 .entry)) (now (key1 .entry)) ⌝ }
 {
@@ -373,8 +350,8 @@ fn write_work(
     key0: &mut [u8],
     key1: &mut [u8],
 ) -> Generated
-    requires { ⌜ (b ≤ most) × (n ≤ most) × (b + n + b + b ≤ length (now work)) ⌝ }
-    requires { ⌜ ((c : ℕ) → getD (take b (drop (b + n) (now work))) c 0 ≤ height.largest) ⌝ }
+    requires { ⌜ (b ≤ mostBuckets) × (n ≤ mostBuckets) × (b + n + b + b ≤ length (now work)) ⌝ }
+    requires { ⌜ ((c : ℕ) → getD (take b (drop (b + n) (now work))) c 0 ≤ largestSingle) ⌝ }
     ensures { λ r. ⌜ spec.writing r (now (key0 .exit)) (now (key1 .exit)) ≡ spec.writeLaid treeHash domain n keys (take b (now (work .entry)))
         (take b (drop (b + n) (now (work .entry)))) (take b (drop (b + n + b) (now (work .entry)))) (now (values .entry)) (now (words .entry))
         evictions (now (key0 .entry)) (now (key1 .entry)) ⌝ }

@@ -1,26 +1,28 @@
-// Reading a multi key: what is refused, sizes held against the image, one cell, and the shares of all buckets in lent scratch.
+// Reading a multi key: what is refused, sizes held against the image, one cell, and all cells over the shares of all buckets in lent
+// scratch.
 // Meanings: specs/Calls.antt, specs/Reading.antt.
 ghost use mathlib.Core.Path.{_≡_};
 ghost use mathlib.Core.Bool.{true};
 ghost use Prim.Native.Nat.{_+_, _*_, _≤_, _<_};
 ghost use lib.ListN.{length, getD};
+ghost use Rattle.words.specs.Limits.{mostBuckets};
 ghost use Rattle.words.specs.Bytes.{put};
+ghost use Rattle.words.specs.Cells.{zeroed};
 ghost use Rattle.words.specs.Refusals.{first};
 ghost use Rattle.cipher.specs.TreeHash.{hashBy, treeHash};
 ghost use Rattle.bucket_hash.specs.BucketHash.{bucketBy};
 ghost use Rattle.single.specs.Rules as single-rule;
-ghost use Rattle.placement.specs.Shares.{unless};
-ghost use Rattle.placement.specs.Calls.{most};
 ghost use Rattle.multi.specs.Rules.{shareOver, cellShare};
 ghost use Rattle.multi.specs.Image.{bucketsIn, domainIn, recordOf, sizeIn, multiOk};
 ghost use Rattle.multi.specs.Calls.{sideIn, alike, domainRoom, evaluateAtEarly, evaluateDomainEarly, addToEarly};
-ghost use Rattle.multi.specs.Reading.{Here, found, sized, cellFound, bucketShares, Ready, spreadOut, laid};
+ghost use Rattle.multi.specs.Reading.{Here, found, sized, cellFound, bucketShares, Ready, spreadOut, laid, cellsPut, cellsAdded};
 use crate::calls::Share;
 use crate::image;
 use bucket_hash::Hashes;
 use cipher::TreeHash;
 use placement::Spots;
 use placement::cells;
+use placement::gather;
 use single::bare;
 use words::refusals;
 use words::sums;
@@ -87,7 +89,7 @@ pub(crate) fn add_to_number(key: &[u8], cells: usize, len: usize) -> u64
 
 // Whether the record of each bucket has the size that was counted; no record counts as 0.
 fn same_sizes(key: &[u8], sizes: &[u64]) -> bool
-    requires { ⌜ length (now sizes) ≤ most ⌝ }
+    requires { ⌜ length (now sizes) ≤ mostBuckets ⌝ }
     ensures { λ r. ⌜ r ≡ alike (sizeIn (now (key .entry))) (λ c. getD (now (sizes .entry)) c 0) (length (now (sizes .entry))) ⌝ }
 {
     let mut c: usize = 0;
@@ -102,22 +104,12 @@ fn same_sizes(key: &[u8], sizes: &[u64]) -> bool
 
 // ---- one cell
 
-// A share, and nothing where its bucket was counted.
-fn unless_counted(counted: bool, share: u64) -> u64
-    ensures { λ r. ⌜ r ≡ unless counted share ⌝ }
-{
-    if counted {
-        return 0;
-    }
-    share
-}
-
 // The sum over buckets b, c and d, which give x, y and z: where two are one bucket, it counts once.
 fn share_over(b: u64, c: u64, d: u64, x: u64, y: u64, z: u64) -> u64
     ensures { λ r. ⌜ r ≡ shareOver 64 b c d x y z ⌝ }
 {
-    let second = unless_counted(c == b, y);
-    let third = unless_counted(d == b, unless_counted(d == c, z));
+    let second = gather::unless_counted(c == b, y);
+    let third = gather::unless_counted(d == b, gather::unless_counted(d == c, z));
     sums::plus(x, sums::plus(second, third))
 }
 
@@ -197,7 +189,7 @@ fn expand(h: TreeHash, key: &[u8], work: &mut [u64])
 }
 
 // 0 with the shares of all buckets in scratch, behind starts and sizes; or Mismatch with starts and sizes.
-pub(crate) fn lay_shares(hashes: Hashes, key: &[u8], scratch: &mut [u64]) -> u64
+fn lay_shares(hashes: Hashes, key: &[u8], scratch: &mut [u64]) -> u64
     requires { ⌜ (multiOk (now key) ≡ true) × (domainRoom (now key) ≤ length (now scratch)) ⌝ }
     ensures answer { λ r. ⌜ r ≡ found (bucketBy hashes (bucketsIn (now (key .entry)))) (now (key .entry)) ⌝ }
     ensures laid { λ _. ⌜ now (scratch .exit) ≡ laid treeHash (bucketBy hashes (bucketsIn (now (key .entry)))) (now (key .entry)) (now (scratch .entry)) ⌝ }
@@ -210,5 +202,48 @@ pub(crate) fn lay_shares(hashes: Hashes, key: &[u8], scratch: &mut [u64]) -> u64
         return refusals::MISMATCH;
     }
     expand(TreeHash::new(), key, scratch);
+    0
+}
+
+// 0 with the share of each cell in front of `out`, or Mismatch and nothing there. Scratch is written, but nowhere behind the elements
+// that are needed.
+pub(crate) fn put_cells(hashes: Hashes, key: &[u8], scratch: &mut [u64], out: &mut [u64]) -> u64
+    requires { ⌜ (multiOk (now key) ≡ true) × (domainRoom (now key) ≤ length (now scratch)) × (domainIn (now key) ≤ length (now out)) ⌝ }
+    ensures answer { λ r. ⌜ r ≡ found (bucketBy hashes (bucketsIn (now (key .entry)))) (now (key .entry)) ⌝ }
+    ensures behind { λ _. ⌜ zeroed (domainRoom (now (key .entry))) (now (scratch .exit)) ≡ zeroed (domainRoom (now (key .entry))) (now (scratch .entry)) ⌝ }
+    ensures cells { λ _. ⌜ now (out .exit) ≡ cellsPut treeHash (bucketBy hashes (bucketsIn (now (key .entry)))) (now (key .entry)) (now (out .entry)) ⌝ }
+{
+    let number = lay_shares(hashes, key, scratch);
+    if number != 0 {
+        return number;
+    }
+    gather::gather(
+        hashes,
+        image::domain(key),
+        image::buckets(key),
+        scratch,
+        out,
+    );
+    0
+}
+
+// 0 with its share added to each cell of the table, or Mismatch and the table as it was. Scratch as with `put_cells`.
+pub(crate) fn add_cells(hashes: Hashes, key: &[u8], scratch: &mut [u64], table: &mut [u64]) -> u64
+    requires { ⌜ (multiOk (now key) ≡ true) × (domainRoom (now key) ≤ length (now scratch)) × (length (now table) ≡ domainIn (now key)) ⌝ }
+    ensures answer { λ r. ⌜ r ≡ found (bucketBy hashes (bucketsIn (now (key .entry)))) (now (key .entry)) ⌝ }
+    ensures behind { λ _. ⌜ zeroed (domainRoom (now (key .entry))) (now (scratch .exit)) ≡ zeroed (domainRoom (now (key .entry))) (now (scratch .entry)) ⌝ }
+    ensures cells { λ _. ⌜ now (table .exit) ≡ cellsAdded treeHash (bucketBy hashes (bucketsIn (now (key .entry)))) (now (key .entry)) (now (table .entry)) ⌝ }
+{
+    let number = lay_shares(hashes, key, scratch);
+    if number != 0 {
+        return number;
+    }
+    gather::gather_into(
+        hashes,
+        image::domain(key),
+        image::buckets(key),
+        scratch,
+        table,
+    );
     0
 }

@@ -4,26 +4,23 @@
 --     a pass        Passing: passing-start, passing-ready, passing-next, passing-done
 --     counters      counted-zero, counted-put: counters that a slice holds
 -- Assumes nothing.
-use mathlib.Core.Path.{_≡_, refl, sym, ap, subst, _∙_}
-use mathlib.Core.Bool.{Bool, true, false}
-use mathlib.Core.Logic.{_⊎_, inl, inr, ⊎-elim, _≢_}
-use mathlib.Core.List.{List, [], _∷_, _++_}
-use Prim.Native.Nat.{ℕ, zero, suc, _+_, _-_, _*_, _≤_, _<_, _^_}
-use native.Mathlib.Nat.{not-suc-le-zero, le-refl, zero-add}
+use mathlib.Core.Path.{_≡_, refl, sym, ap, _∙_}
+use mathlib.Core.Logic.{_⊎_, ⊎-elim, _≢_}
+use mathlib.Core.List.{List}
+use Prim.Native.Nat.{ℕ, _+_, _-_, _≤_, _<_, _^_}
 use native.Mathlib.Numerals.{add-one}
 use native.Mathlib.Omega.{arith}
-use native.Mathlib.Decide.{ℕ-discrete, decLt}
+use native.Mathlib.Decide.{ℕ-discrete}
 use lib.Dec.{eqb}
-use lib.ListN.{length, getD, set, take, drop, length-set, length-append, replicate, length-replicate, length-take, length-drop, List·getD-append}
-use lib.Seq.{getD-set-same, getD-set-other, ext-getD, getD-take, getD-drop, getD-append-add, length-take-le}
+use lib.ListN.{length, getD, length-set, replicate, length-replicate}
+use lib.Seq.{getD-set-same, getD-set-other}
 use borrow.Author.Tests.{eq-eqb, ne-eqb}
 use Rattle.words.specs.Bytes.{put}
 use Rattle.words.specs.Cells.{tab}
-use Rattle.words.proofs.ByteLaws.{length-put}
 use Rattle.words.proofs.CellLaws.{length-tab, getD-tab}
 use Rattle.placement.specs.Buckets.{adds, sizeOf}
 use Rattle.placement.specs.Passes.{threeOf, bump, entered, Counter, Counted}
-use Rattle.placement.proofs.PutLaws.{put-at, put-is}
+use Rattle.placement.proofs.PutLaws.{zero-at, put-at, put-is}
 use Rattle.placement.proofs.BucketLaws.{oneIf, one-le, length-adds, size-zero, size-suc, size-le}
 
 -- ---- one entry
@@ -140,11 +137,6 @@ module _ (h : ℕ → ℕ → ℕ) (b : ℕ) (low : (k x : ℕ) → k < 3 → h 
         put-is l₀ l base b (sizeOf h d) fits (t .long) (λ c lc. t .counted .at c lc ∙ ap (λ (y : ℕ). sizeOf h y c) e) (t .same)
 
 -- ---- counters in a slice
-
-zero-at : (n i : ℕ) → _≡_ {A = ℕ} (getD (replicate n 0) i 0) 0
-zero-at zero i = refl
-zero-at (suc n) zero = refl
-zero-at (suc n) (suc i) = zero-at n i
 
 -- counters of zero count no cell
 pub counted-zero : (h : ℕ → ℕ → ℕ) (b base a n : ℕ) (l l' : List ℕ) → a + n ≤ length l → a ≤ base → base + b ≤ a + n

@@ -2,8 +2,8 @@
 --     sum-held     with a placement's records, a cell's sum over its distinct buckets is the value posted there
 --     sum-shares   the same of two parties' shares, modulo m
 -- Assumes nothing.
-use Prim.Native.Nat.{ℕ, zero, suc, _+_, _≤_, _<_, _%_}
-use native.Mathlib.Nat.{not-suc-le-zero, lt-irrefl, le-refl, add-mod, add-comm, add-assoc, le-of-suc-le-suc}
+use Prim.Native.Nat.{ℕ, zero, suc, _+_, _<_, _%_}
+use native.Mathlib.Nat.{not-suc-le-zero, add-mod}
 use native.Mathlib.Omega.{arith}
 use native.Mathlib.Decide.{ℕ-discrete, decLt}
 use mathlib.Core.Path.{_≡_, refl, sym, ap, ap₂, subst, _∙_}

@@ -1,5 +1,6 @@
 -- What this layer promises beyond its functions' contracts, over any bucket functions. Each claim is proved in the file of
--- proofs/ that has its name. Assumes nothing.
+-- proofs/ that has its name. A contract leaves no choice: each public call is one equation of Calls, and any two results that
+-- meet it are equal by `words` Promises.Determined. Assumes nothing.
 use mathlib.Core.Path.{_≡_}
 use mathlib.Core.Logic.{_⊎_, _≢_}
 use mathlib.Core.List.{List}
@@ -9,7 +10,6 @@ use Rattle.words.specs.Cells.{sumTo}
 use Rattle.placement.specs.Buckets.{sizeOf, startOf, posOf, Enters}
 use Rattle.placement.specs.Walk.{Walk, Placement, insertOf, takeUp, walkOf}
 use Rattle.placement.specs.Shares.{overBuckets, atPoints, posted, heldAt, Rising}
-use Rattle.placement.specs.Calls.{Placing, Counting, Spotting, Gathering, placing, layingOut, sizing, starting, spotting, gatheringOut, gatheringInto}
 
 -- the turn of each input ends: with nothing in hand, after at most n evictions; or with n + 1 evictions, where the walk gives up
 abbrev pub WalkEnds : Type 0
@@ -53,13 +53,3 @@ pub record SharesGather : Type 0 where
       → (v₀ v₁ : ℕ → ℕ → ℕ) (x : ℕ) → x < d
       → ((c : ℕ) → Enters h c x → (v₀ c (posOf h d c x) + v₁ c (posOf h d c x)) % m ≡ heldAt h d pts vs t c (posOf h d c x) % m)
       → (overBuckets h d v₀ x % m + overBuckets h d v₁ x % m) % m ≡ posted pts vs x % m
-
--- what a public call promises leaves no choice: any two results that satisfy it are equal
-pub record Determined : Type 0 where
-  pub place : (h : ℕ → ℕ → ℕ) (d b : ℕ) (pts l : List ℕ) (m n : Placing) → m ≡ placing h d b pts l → n ≡ placing h d b pts l → m ≡ n
-  pub layOut : (h : ℕ → ℕ → ℕ) (d b : ℕ) (pts l : List ℕ) (m n : Placing) → m ≡ layingOut h d b pts l → n ≡ layingOut h d b pts l → m ≡ n
-  pub sizes : (h : ℕ → ℕ → ℕ) (d b : ℕ) (l : List ℕ) (m n : Counting) → m ≡ sizing h d b l → n ≡ sizing h d b l → m ≡ n
-  pub starts : (h : ℕ → ℕ → ℕ) (d b : ℕ) (l : List ℕ) (m n : Counting) → m ≡ starting h d b l → n ≡ starting h d b l → m ≡ n
-  pub spots : (h : ℕ → ℕ → ℕ) (d b x : ℕ) (l : List ℕ) (m n : Spotting) → m ≡ spotting h d b x l → n ≡ spotting h d b x l → m ≡ n
-  pub gather : (h : ℕ → ℕ → ℕ) (d b : ℕ) (l o : List ℕ) (m n : Gathering) → m ≡ gatheringOut h d b l o → n ≡ gatheringOut h d b l o → m ≡ n
-  pub gatherInto : (h : ℕ → ℕ → ℕ) (d b : ℕ) (l t : List ℕ) (m n : Gathering) → m ≡ gatheringInto h d b l t → n ≡ gatheringInto h d b l t → m ≡ n

@@ -1,33 +1,50 @@
 -- Laws of the public calls: what a success may use, what it gives, and what a refusal leaves.
---     images      size-at, size-most, sound-in, size-in
+--     tests       first-of, second-of, third-of, none-of: three refusals in their order
+--     images      size-at, sound-in, size-in
 --     making      MakeClear, make-clear; generate-done, generate-refused, generate-number; count-made
 --     one cell    at-clear; at-done, at-refused, at-number
 --     all cells   DomainClear, domain-clear; domain-done, domain-refused, domain-number
 --     adding      AddClear, add-clear; add-done, add-refused, add-number
 -- Assumes nothing.
-use mathlib.Core.Path.{_≡_, refl, ap}
+use mathlib.Core.Path.{_≡_, refl, ap, _∙_}
 use mathlib.Core.Bool.{Bool, true, false}
-use mathlib.Core.List.{List}
+use mathlib.Core.List.{List, [], _∷_}
 use Prim.Native.Nat.{ℕ, zero, suc, _+_, _*_, _≤_, _<_}
 use native.Mathlib.Omega.{arith}
 use borrow.Author.Tests.{ltb-false, leb-false, eqb-true, not-false}
 use lib.ListN.{length, take, drop}
 use lib.Seq.{drop-drop}
 use Rattle.words.specs.declared.Word.{Word}
-use Rattle.words.specs.Height.{largest}
+use Rattle.words.specs.Limits.{largestSingle}
 use Rattle.words.specs.Bytes.{leNum, field, put}
 use Rattle.words.specs.Cells.{added, zeroed}
-use Rattle.words.specs.Refusals.{onSuccess}
-use Rattle.words.proofs.TestLaws.{first-clear, succeeded, refused}
+use Rattle.words.specs.Refusals.{first, onSuccess}
+use Rattle.words.proofs.TestLaws.{first-none, first-hit, first-miss, first-clear, succeeded, refused}
 use Rattle.single.specs.declared.calls.Share.{Share}
 use Rattle.single.specs.Rules.{made, domain}
 use Rattle.single.specs.Keys.{keyOf, Sound}
 use Rattle.single.specs.Record.{wordCount, recordLength, recordIn}
-use Rattle.single.specs.Image.{imageLength, partyIn, keptIn, imageOk}
+use Rattle.single.specs.Image.{imageLength, sideIn, keptIn, imageOk}
 use Rattle.single.specs.Calls.{wordsNeeded, generateTests, generateNumber, generating, imageMade, generateKeys, sizeOf, shareIn, evaluateAtTests, evaluateAtNumber, evaluateAt, evaluateDomainTests, evaluateDomainNumber, evaluating, evaluateDomain, addToTests, addToNumber, adding, addTo}
 use Rattle.single.proofs.MadeFits.{made-fits}
-use Rattle.single.proofs.RecordLaws.{limits-of, accepted, length-wordsIn}
+use Rattle.words.proofs.HeightLaws.{limits-of}
+use Rattle.single.proofs.RecordLaws.{accepted, length-wordsIn}
 use Rattle.single.proofs.ImageLaws.{imaged}
+
+-- ---- three refusals in their order
+
+module _ (x y z : Bool × ℕ) where
+  pub first-of : x .0 ≡ true → first (x ∷ y ∷ z ∷ []) ≡ x .1
+  first-of p = first-hit _ _ p
+
+  pub second-of : x .0 ≡ false → y .0 ≡ true → first (x ∷ y ∷ z ∷ []) ≡ y .1
+  second-of p q = first-miss _ _ p ∙ first-hit _ _ q
+
+  pub third-of : x .0 ≡ false → y .0 ≡ false → z .0 ≡ true → first (x ∷ y ∷ z ∷ []) ≡ z .1
+  third-of p q r = first-miss _ _ p ∙ first-miss _ _ q ∙ first-hit _ _ r
+
+  pub none-of : x .0 ≡ false → y .0 ≡ false → z .0 ≡ false → first (x ∷ y ∷ z ∷ []) ≡ 0
+  none-of p q r = first-miss _ _ p ∙ first-miss _ _ q ∙ first-miss _ _ r ∙ first-none
 
 -- ---- images
 
@@ -38,12 +55,9 @@ size-at l = ap (λ (r : List ℕ). leNum (take 8 r)) (drop-drop 0 8 l)
 pub sound-in : (l : List ℕ) → imageOk l ≡ true → Sound (keyOf (keptIn l))
 unfolding keyOf recordIn
 sound-in l ok =
-    let q = accepted largest (drop 8 l) (imaged l ok .kept) in
+    let q = accepted largestSingle (drop 8 l) (imaged l ok .kept) in
     let size = limits-of (sizeOf l) (q .treed) in
     record { some = size .0; within = size .1; counted = length-wordsIn (drop 8 l) 56 (wordCount (sizeOf l)) }
-
-pub size-most : (l : List ℕ) → imageOk l ≡ true → sizeOf l ≤ largest
-size-most l ok = limits-of (sizeOf l) (accepted largest (drop 8 l) (imaged l ok .kept) .treed) .1
 
 -- the size of the key that an image is read into
 pub size-in : (l : List ℕ) → keyOf (keptIn l) .size ≡ sizeOf l
@@ -54,7 +68,7 @@ size-in l = refl
 
 pub record MakeClear (S room0 room1 : ℕ) : Type 0 where
   pub some : 1 ≤ S
-  pub most : S ≤ largest
+  pub most : S ≤ largestSingle
   pub first-fits : 64 + 16 * wordCount S ≤ room0
   pub second-fits : 64 + 16 * wordCount S ≤ room1
 
@@ -66,7 +80,7 @@ make-clear S α n room0 room1 e =
     let fits1 : imageLength S ≤ room1 = ltb-false room1 (imageLength S) (first-clear rows 5 tt e) in
     record {
       some = ltb-false S 1 (first-clear rows 0 tt e);
-      most = ltb-false largest S (first-clear rows 1 tt e);
+      most = ltb-false largestSingle S (first-clear rows 1 tt e);
       first-fits = omega arith;
       second-fits = omega arith;
     }
@@ -141,7 +155,7 @@ domain-clear l scratch room e =
 
 module _ (H : Word → Word) (l s o : List ℕ) where
   pub domain-done : evaluateDomainNumber l (length s) (length o) ≡ 0
-      → evaluateDomain H l s o ≡ evaluating 0 (zeroed (2 * sizeOf l) s) (put o 0 (domain H 64 (partyIn l) (keptIn l)))
+      → evaluateDomain H l s o ≡ evaluating 0 (zeroed (2 * sizeOf l) s) (put o 0 (domain H 64 (sideIn l) (keptIn l)))
   unfolding evaluateDomain
   domain-done e = succeeded _ _ _ e
 
@@ -153,7 +167,7 @@ module _ (H : Word → Word) (l s o : List ℕ) where
   unfolding evaluateDomain
   domain-number = go (evaluateDomainNumber l (length s) (length o))
     where
-      go : (n : ℕ) → onSuccess n (evaluating 0 (zeroed (2 * sizeOf l) s) (put o 0 (domain H 64 (partyIn l) (keptIn l)))) (evaluating n s o) .number ≡ n
+      go : (n : ℕ) → onSuccess n (evaluating 0 (zeroed (2 * sizeOf l) s) (put o 0 (domain H 64 (sideIn l) (keptIn l)))) (evaluating n s o) .number ≡ n
       go zero = refl
       go (suc n) = refl
 

@@ -9,14 +9,14 @@ use borrow.Author.Tests.{eq-eqb, le-leb}
 use lib.Dec.{lit<, eqb}
 use lib.ListN.{length, drop, length-append, take-append-drop}
 use lib.Seq.{drop-at, getD-drop}
-use Rattle.words.specs.Height.{largest}
-use Rattle.words.specs.Bytes.{leBytes, field}
+use Rattle.words.specs.Limits.{largestSingle}
+use Rattle.words.specs.Bytes.{leBytes, field, AreBytes}
 use Rattle.words.proofs.ByteLaws.{length-leBytes, field-at}
 use Rattle.words.proofs.TestLaws.{every-none, every-pass}
 use Rattle.single.specs.Rules.{Record}
 use Rattle.single.specs.Record.{recordBytes, recordOk}
-use Rattle.single.specs.Image.{imageBytes, partyIn, keptIn, imageTests, imageOk}
-use Rattle.single.specs.ReadBack.{Whole, Bytes, ImageReadsBack}
+use Rattle.single.specs.Image.{imageBytes, sideIn, keptIn, imageTests, imageOk}
+use Rattle.single.specs.ReadBack.{Whole, ImageReadsBack}
 use Rattle.single.proofs.ImageLaws.{imaged, length-image}
 use Rattle.single.proofs.RecordReadsBack.{record-reads-back, number-piece, join}
 
@@ -45,13 +45,13 @@ module _ (p : Bool) (r : Record) where
   same-party true = refl
   same-party false = refl
 
-  pub party-back : partyIn (imageBytes p r) ≡ p
-  unfolding partyIn
+  pub party-back : sideIn (imageBytes p r) ≡ p
+  unfolding sideIn
   party-back = rw party-here (same-party p)
 
-  module _ (w : Whole largest r) where
+  module _ (w : Whole largestSingle r) where
     pub image-back : keptIn (imageBytes p r) ≡ r
-    image-back = rw record-here (record-reads-back .read largest r w)
+    image-back = rw record-here (record-reads-back .read largestSingle r w)
 
     pub image-accepted : imageOk (imageBytes p r) ≡ true
     unfolding imageOk imageTests
@@ -59,7 +59,7 @@ module _ (p : Bool) (r : Record) where
         let few : field 4 (imageBytes p r) 0 ≤ 1 = rw party-here (small p) in
         every-pass _ (le-leb _ _ few)
         ∙ every-pass _ (eq-eqb _ _ offset-here)
-        ∙ every-pass _ (ap (recordOk largest) record-here ∙ record-reads-back .accepted largest r w)
+        ∙ every-pass _ (ap (recordOk largestSingle) record-here ∙ record-reads-back .accepted largestSingle r w)
         ∙ every-none
 
 -- ---- what is accepted is what was written
@@ -69,14 +69,14 @@ party-of zero h = refl
 party-of (suc zero) h = refl
 party-of (suc (suc n)) h = let none : ⊥ = omega arith in absurd none
 
-written : (l : List ℕ) → Bytes l → imageOk l ≡ true → imageBytes (partyIn l) (keptIn l) ≡ l
-unfolding imageBytes partyIn
+written : (l : List ℕ) → AreBytes l → imageOk l ≡ true → imageBytes (sideIn l) (keptIn l) ≡ l
+unfolding imageBytes sideIn
 written l bytes ok =
     let q = imaged l ok in
     let long : 8 ≤ length l = omega (arith, length-image l ok) in
-    let inner : Bytes (drop 8 l) = λ i. rw (getD-drop 8 l i 0) (bytes (8 + i)) in
+    let inner : AreBytes (drop 8 l) = λ i. rw (getD-drop 8 l i 0) (bytes (8 + i)) in
     let offset : leBytes 4 8 ≡ leBytes 4 (field 4 l 4) = ap (leBytes 4) (sym (q .offset)) in
-    rw (party-of (field 4 l 0) (q .party), offset, number-piece l bytes 4 0 (omega arith), number-piece l bytes 4 4 (omega arith), record-reads-back .written largest (drop 8 l) inner (q .kept))
+    rw (party-of (field 4 l 0) (q .party), offset, number-piece l bytes 4 0 (omega arith), number-piece l bytes 4 4 (omega arith), record-reads-back .written largestSingle (drop 8 l) inner (q .kept))
     (ap (λ (r : List ℕ). r ++ drop 8 l) (join l bytes 0 4 4 4 refl) ∙ take-append-drop 8 l)
 
 pub image-reads-back : ImageReadsBack

@@ -2,16 +2,16 @@
 --     Sound        sound-few: at most 33 words are in use
 --     wordsFrom    length-wordsFrom, words-next (one word more at the end)
 --     descend      descend-next, descend-done: one level of a descent by the words of two columns
---     column       column-length, column-set (one number more behind the list)
+--     column       column-set (one number more behind the list)
 --     keyOf        record-back: the key that holds a record holds that record
 -- Assumes nothing.
-use mathlib.Core.Path.{_≡_, refl, sym, ap, ap₂, _∙_}
+use mathlib.Core.Path.{_≡_, refl, sym, ap, _∙_}
 use mathlib.Core.List.{List, [], _∷_, _++_, map}
 use Prim.Native.Nat.{ℕ, zero, suc, _+_, _-_, _≤_, _<_}
 use native.Mathlib.Omega.{arith}
 use native.Mathlib.Nat.{add-zero, zero-add}
 use native.Mathlib.Numerals.{add-one}
-use lib.ListN.{length, getD, set, replicate, length-append, length-replicate}
+use lib.ListN.{length, getD, set, replicate, length-append}
 use lib.Seq.{set-at, append-snoc}
 use Rattle.words.specs.declared.Word.{Word}
 use Rattle.words.specs.Word.{bit}
@@ -69,10 +69,6 @@ module _ (H : Word → Word) (y : ℕ) (ls hs : List ℕ) (i n : ℕ) (s : Word)
   descend-done h = let none : n - i ≡ 0 = omega arith in rw none
 
 -- ---- columns
-
-pub column-length : (l : List ℕ) → length l ≤ 33 → length (column l) ≡ 33
-unfolding column
-column-length l h = simp (length-append, length-replicate) (omega arith)
 
 -- the number behind the list
 pub column-set : (l : List ℕ) (i x : ℕ) → length l ≡ i → i < 33 → set (column l) i x ≡ column (l ++ (x ∷ []))

@@ -4,20 +4,18 @@
 --     spread-all     the shares over the layer before the last; spread-one: of a single cell
 -- Assumes nothing.
 use mathlib.Core.Path.{_≡_, refl, sym, ap, _∙_}
-use mathlib.Core.Bool.{Bool, cond}
-use mathlib.Core.List.{List, [], _∷_, _++_}
+use mathlib.Core.Bool.{Bool}
+use mathlib.Core.List.{List, [], _∷_}
 use Prim.Native.Nat.{ℕ, zero, suc, _+_, _-_, _*_, _/_, _^_, _≤_, _<_}
 use native.Mathlib.Omega.{arith}
 use native.Mathlib.Nat.{div-eq-of-lt, sub-zero}
-use lib.Dec.{eqb}
 use lib.ListN.{length}
 use lib.Pow.{shr-shr}
 use borrow.Author.Tests.{ne-eqb}
 use Rattle.words.specs.declared.Word.{Word}
 use Rattle.words.specs.Word.{is-odd}
-use Rattle.words.specs.Ring.{neg}
 use Rattle.words.specs.Bytes.{put}
-use Rattle.words.specs.Height.{height, Height}
+use Rattle.words.specs.Height.{height}
 use Rattle.words.proofs.HeightIsLeast.{height-is-least}
 use Rattle.single.specs.declared.tree.End.{End}
 use Rattle.single.specs.Rules.{Record, step, descend, leaf, share}

@@ -1,26 +1,23 @@
 -- Laws of making a pair: what each step of the maker has put together is the value that specs/Making.antt gives it.
---     tree-height, height-pos   the height that `words::height` answers
+--     height-pos                two cells or more have a level
 --     Walking                   the correction words of the first i levels are made: walking-none, walking-more, walking-all
 --     ended                     the last level
 --     pair-tall, pair-tiny      both keys
 -- Assumes nothing.
 use mathlib.Core.Path.{_≡_, refl, sym, ap, ap₂, _∙_}
 use mathlib.Core.Bool.{Bool, true, false, not, xor, Bool·beq, cond}
-use mathlib.Core.List.{List, [], _∷_, _++_, map, append-nil}
-use Prim.Native.Nat.{ℕ, zero, suc, _+_, _-_, _*_, _/_, _^_, _≤_, _<_}
+use mathlib.Core.List.{List, [], _∷_, _++_, map, map-append, append-nil}
+use Prim.Native.Nat.{ℕ, zero, suc, _+_, _-_, _/_, _^_, _≤_, _<_}
 use native.Mathlib.Omega.{arith}
-use native.Mathlib.Nat.{sub-zero, mod-eq-of-lt}
-use lib.ListN.{length, getD, set, replicate, length-append}
+use native.Mathlib.Nat.{sub-zero}
+use lib.ListN.{length, set, replicate, length-append}
 use lib.Seq.{append-snoc}
-use borrow.Author.Tests.{le-ltb, ne-eqb, eq-eqb}
+use borrow.Author.Tests.{ne-eqb}
 use Rattle.words.specs.declared.Word.{Word}
-use Rattle.words.specs.declared.Tree.{Tree}
 use Rattle.words.specs.Word.{_⊕_, _when_, none, is-odd, bit, odd, clear, mark}
 use Rattle.words.specs.Ring.{sub, low}
-use Rattle.words.specs.Height.{height, largest, heightNumber, treeFor}
+use Rattle.words.specs.Height.{height}
 use Rattle.words.proofs.HeightIsLeast.{height-is-least}
-use Rattle.words.proofs.TestLaws.{first-none, first-miss, succeeded}
-use Rattle.single.specs.declared.SingleKey.{SingleKey}
 use Rattle.single.specs.declared.tree.End.{End}
 use Rattle.single.specs.declared.make.Path.{Path}
 use Rattle.single.specs.declared.make.Pair.{Pair}
@@ -31,12 +28,6 @@ use Rattle.single.proofs.Descent.{length-corrections, descend-suc}
 use Rattle.single.proofs.KeyLaws.{column-set}
 
 -- ---- the height
-
-pub tree-height : (S : ℕ) → 1 ≤ S → S ≤ largest → treeFor S .height ≡ height S
-unfolding treeFor heightNumber
-tree-height S some within =
-    let fine : heightNumber S ≡ 0 = first-miss _ _ (le-ltb S 1 some) ∙ first-miss _ _ (le-ltb largest S within) ∙ first-none in
-    ap (λ (t : Tree). t .height) (succeeded (heightNumber S) _ _ fine)
 
 pub height-pos : (S : ℕ) → 1 < S → S ≤ 2 ^ 64 → 1 ≤ height S
 height-pos S many fits = go (height S) (height-is-least S (omega arith) fits .enough)
@@ -53,10 +44,6 @@ lows-of cws = map (λ (a : Word). a .lo) cws
 abbrev highs-of : List Word → List ℕ
 highs-of cws = map (λ (a : Word). a .hi) cws
 
-map-snoc : (f : Word → ℕ) (l : List Word) (a : Word) → map f (l ++ (a ∷ [])) ≡ map f l ++ (f a ∷ [])
-map-snoc f [] a = refl
-map-snoc f (b ∷ l) a = ap (λ (r : List ℕ). f b ∷ r) (map-snoc f l a)
-
 length-mapped : (f : Word → ℕ) (l : List Word) → length (map f l) ≡ length l
 length-mapped f [] = refl
 length-mapped f (b ∷ l) = ap suc (length-mapped f l)
@@ -65,7 +52,7 @@ length-mapped f (b ∷ l) = ap suc (length-mapped f l)
 stored : (f : Word → ℕ) (l : List Word) (a : Word) (i : ℕ) {ls : List ℕ} {x : ℕ} → ls ≡ column (map f l) → x ≡ f a → length l ≡ i → i < 33
     → set ls i x ≡ column (map f (l ++ (a ∷ [])))
 stored f l a i e q n h =
-    ap₂ (λ (r : List ℕ) (v : ℕ). set r i v) e q ∙ column-set (map f l) i (f a) (length-mapped f l ∙ n) h ∙ ap column (sym (map-snoc f l a))
+    ap₂ (λ (r : List ℕ) (v : ℕ). set r i v) e q ∙ column-set (map f l) i (f a) (length-mapped f l ∙ n) h ∙ ap column (sym (map-append f l (a ∷ [])))
 
 module _ (H : Word → Word) (δ : Word) (y n : ℕ) (t0 t1 : Word) where
   -- the words of the first i levels are stored, and what is left from the seeds in hand gives the whole

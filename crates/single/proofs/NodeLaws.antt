@@ -1,31 +1,29 @@
 -- Laws of layers of nodes in a slice.
 --     put            put-before (a write right before a write), put-longer (a write over a shorter one)
 --     nodesFrom      length-nodesFrom, nodesFrom-ext, nodesFrom-append
---     nodeAt         nodeAt-kept (a node before what was written), nodeAt-first (a node of what was written)
+--     wordNo         wordNo-kept (a node before what was written), wordNo-first (a node of what was written)
 --     grown          grown-left, grown-right; grow-one, grow-two: what growing one node writes
 --     Growing        a layer of which the nodes from i on are grown: growing-none, growing-more, growing-all
 --     layer          layer-of: the layer over given nodes
---     spread         length-spread, getD-spread: the share of a cell; zeroed-put: what was written is gone
+--     spread         length-spread, getD-spread: the share of a cell
 -- Assumes nothing.
 use mathlib.Core.Path.{_≡_, refl, sym, ap, ap₂, _∙_, subst}
 use mathlib.Core.Bool.{Bool, true, false, cond}
 use mathlib.Core.List.{List, [], _∷_, _++_, append-assoc}
 use Prim.Native.Nat.{ℕ, zero, suc, _+_, _-_, _*_, _/_, _%_, _≤_, _<_}
 use native.Mathlib.Omega.{arith}
-use native.Mathlib.Nat.{add-zero, zero-add, add-suc, suc-add, mul-suc, sub-zero}
-use native.Mathlib.Numerals.{add-one}
-use lib.Dec.{ltb, eqb}
-use lib.ListN.{length, take, drop, getD, replicate, length-replicate, length-take, length-append, List·getD-append}
-use lib.Seq.{take-append-le, take-take, take-at, drop-at, drop-drop, drop-append-le, getD-take, getD-append-add}
+use native.Mathlib.Nat.{add-zero, zero-add, sub-zero}
+use lib.Dec.{ltb}
+use lib.ListN.{length, take, drop, getD, length-take, length-append, List·getD-append}
+use lib.Seq.{take-append-le, take-take, drop-at, drop-drop, getD-take}
 use borrow.Author.Tests.{lt-ltb, le-ltb, ltb-true, ltb-false}
 use Rattle.words.specs.declared.Word.{Word}
 use Rattle.words.specs.Word.{is-odd}
 use Rattle.words.specs.Bytes.{put}
-use Rattle.words.specs.Ring.{add}
-use Rattle.words.specs.Cells.{tab, added, zeroed}
-use Rattle.words.proofs.CellLaws.{tab-ext, zeroed-le}
-use Rattle.words.proofs.ByteLaws.{put-nil, put-next, length-put}
-use Rattle.single.specs.Nodes.{nodeAt, nodesFrom, grown, layer, lowWord, spread}
+use Rattle.words.specs.Cells.{wordNo}
+use Rattle.words.proofs.XorLaws.{word}
+use Rattle.words.proofs.ByteLaws.{put-nil, put-next}
+use Rattle.single.specs.Nodes.{nodesFrom, grown, layer, lowWord, spread}
 
 -- ---- put
 
@@ -74,10 +72,7 @@ nodesFrom-append f i (suc m) n =
     let more : suc m + n ≡ suc (m + n) = omega arith in
     rw (next, more) (ap (λ (l : List ℕ). f i .lo ∷ f i .hi ∷ l) (nodesFrom-append f (suc i) m n))
 
--- ---- nodeAt
-
-word : {a b c d : ℕ} → a ≡ b → c ≡ d → _≡_ {A = Word} (record { lo = a; hi = c }) (record { lo = b; hi = d })
-word p q = λ i. record { lo = p i; hi = q i }
+-- ---- wordNo
 
 -- what stands before a write is as it was
 getD-before : (l : List ℕ) (a : ℕ) (bs : List ℕ) (i : ℕ) → i < a → a ≤ length l → getD (put l a bs) i 0 ≡ getD l i 0
@@ -87,9 +82,9 @@ getD-before l a bs i h q =
     ap (λ (r : List ℕ). getD r i 0) (append-assoc (take a l) bs (drop (a + length bs) l))
     ∙ List·getD-append (take a l) (bs ++ drop (a + length bs) l) 0 i (omega arith) ∙ getD-take a l i 0 h
 
-pub nodeAt-kept : (l : List ℕ) (a : ℕ) (bs : List ℕ) (i : ℕ) → 2 * i + 1 < a → a ≤ length l → nodeAt (put l a bs) i ≡ nodeAt l i
-unfolding nodeAt
-nodeAt-kept l a bs i h q = word (getD-before l a bs (2 * i) (omega arith) q) (getD-before l a bs (2 * i + 1) (omega arith) q)
+pub wordNo-kept : (l : List ℕ) (a : ℕ) (bs : List ℕ) (i : ℕ) → 2 * i + 1 < a → a ≤ length l → wordNo (put l a bs) i ≡ wordNo l i
+unfolding wordNo
+wordNo-kept l a bs i h q = word (getD-before l a bs (2 * i) (omega arith) q) (getD-before l a bs (2 * i + 1) (omega arith) q)
 
 getD-low : (f : ℕ → Word) (i n j : ℕ) → j < n → getD (nodesFrom f i n) (2 * j) 0 ≡ f (i + j) .lo
 unfolding nodesFrom
@@ -107,9 +102,9 @@ getD-high f i (suc n) (suc j) h =
     let two : 2 * suc j + 1 ≡ suc (suc (2 * j + 1)) = omega arith in
     ap (λ (k : ℕ). getD (f i .lo ∷ f i .hi ∷ nodesFrom f (suc i) n) k 0) two ∙ getD-high f (suc i) n j (omega arith) ∙ ap (λ (k : ℕ). f k .hi) (omega arith)
 
-pub nodeAt-first : (t : List ℕ) (f : ℕ → Word) (n j : ℕ) → j < n → nodeAt (put t 0 (nodesFrom f 0 n)) j ≡ f j
-unfolding nodeAt put
-nodeAt-first t f n j h =
+pub wordNo-first : (t : List ℕ) (f : ℕ → Word) (n j : ℕ) → j < n → wordNo (put t 0 (nodesFrom f 0 n)) j ≡ f j
+unfolding wordNo put
+wordNo-first t f n j h =
     let len = length-nodesFrom f 0 n in
     word
     (List·getD-append (nodesFrom f 0 n) _ 0 (2 * j) (omega arith) ∙ getD-low f 0 n j h ∙ ap (λ (k : ℕ). f k .lo) (zero-add j))
@@ -118,14 +113,14 @@ nodeAt-first t f n j h =
 -- ---- growing one node
 
 module _ (g : Bool → Word → Word) (l : List ℕ) (i : ℕ) where
-  pub grown-left : grown g l (2 * i) ≡ g false (nodeAt l i)
+  pub grown-left : grown g l (2 * i) ≡ g false (wordNo l i)
   unfolding grown is-odd
   grown-left =
       let even : (2 * i) % 2 ≡ 0 = omega arith in
       let half : (2 * i) / 2 ≡ i = omega arith in
       rw (even, half)
 
-  pub grown-right : grown g l (suc (2 * i)) ≡ g true (nodeAt l i)
+  pub grown-right : grown g l (suc (2 * i)) ≡ g true (wordNo l i)
   unfolding grown is-odd
   grown-right =
       let odd : suc (2 * i) % 2 ≡ 1 = omega arith in
@@ -133,7 +128,7 @@ module _ (g : Bool → Word → Word) (l : List ℕ) (i : ℕ) where
       rw (odd, half)
 
   -- the left child alone
-  pub grow-one : (next : ℕ) {l1 : List ℕ} (x : Word) → l1 ≡ put l (2 * (2 * i)) (x .lo ∷ x .hi ∷ []) → x ≡ g false (nodeAt l i) → next ≤ 2 * i + 1
+  pub grow-one : (next : ℕ) {l1 : List ℕ} (x : Word) → l1 ≡ put l (2 * (2 * i)) (x .lo ∷ x .hi ∷ []) → x ≡ g false (wordNo l i) → next ≤ 2 * i + 1
       → l1 ≡ put l (2 * (2 * i)) (nodesFrom (grown g l) (2 * i) (cond (ltb (2 * i + 1) next) 2 1))
   unfolding nodesFrom
   grow-one next x e p h =
@@ -142,7 +137,7 @@ module _ (g : Bool → Word → Word) (l : List ℕ) (i : ℕ) where
 
   -- both children
   pub grow-two : (next : ℕ) {l1 l2 : List ℕ} (x y : Word) → l1 ≡ put l (2 * (2 * i)) (x .lo ∷ x .hi ∷ []) → l2 ≡ put l1 (2 * (2 * i + 1)) (y .lo ∷ y .hi ∷ [])
-      → x ≡ g false (nodeAt l i) → y ≡ g true (nodeAt l i) → 2 * i + 1 < next → 2 * next ≤ length l
+      → x ≡ g false (wordNo l i) → y ≡ g true (wordNo l i) → 2 * i + 1 < next → 2 * next ≤ length l
       → l2 ≡ put l (2 * (2 * i)) (nodesFrom (grown g l) (2 * i) (cond (ltb (2 * i + 1) next) 2 1))
   unfolding nodesFrom
   grow-two next x y e1 e2 p q h m =
@@ -174,8 +169,8 @@ module _ (g : Bool → Word → Word) (next : ℕ) (l0 : List ℕ) (room : 2 * n
       let rest = nodesFrom (grown g l0) (2 * (j + 1)) (next - 2 * (j + 1)) in
       let two = length-nodesFrom (grown g l0) (2 * j) 2 in
       let many = length-nodesFrom (grown g l0) (2 * (j + 1)) (next - 2 * (j + 1)) in
-      let old : (k : ℕ) → 2 * j ≤ k → k < 2 * j + 2 → g (is-odd k) (nodeAt l (k / 2)) ≡ g (is-odd k) (nodeAt l0 (k / 2)) =
-      λ k p q. ap (g (is-odd k)) (ap (λ (r : List ℕ). nodeAt r (k / 2)) (v .nodes) ∙ nodeAt-kept l0 (2 * (2 * (j + 1))) rest (k / 2) (omega arith) (omega arith)) in
+      let old : (k : ℕ) → 2 * j ≤ k → k < 2 * j + 2 → g (is-odd k) (wordNo l (k / 2)) ≡ g (is-odd k) (wordNo l0 (k / 2)) =
+      λ k p q. ap (g (is-odd k)) (ap (λ (r : List ℕ). wordNo r (k / 2)) (v .nodes) ∙ wordNo-kept l0 (2 * (2 * (j + 1))) rest (k / 2) (omega arith) (omega arith)) in
       let place : 2 * (j + 1) ≡ 2 * j + 2 = omega arith in
       let count : 2 + (next - 2 * (j + 1)) ≡ next - 2 * j = omega arith in
       e
@@ -225,8 +220,8 @@ layer-of t g f m next few many =
     let old = length-nodesFrom f 0 m in
     let new = length-nodesFrom (λ k. g (is-odd k) (f (k / 2))) 0 next in
     ap (put l 0)
-    (nodesFrom-ext (λ k. g (is-odd k) (nodeAt l (k / 2))) (λ k. g (is-odd k) (f (k / 2))) 0 next
-    (λ k p q. ap (g (is-odd k)) (nodeAt-first t f m (k / 2) (omega arith))))
+    (nodesFrom-ext (λ k. g (is-odd k) (wordNo l (k / 2))) (λ k. g (is-odd k) (f (k / 2))) 0 next
+    (λ k p q. ap (g (is-odd k)) (wordNo-first t f m (k / 2) (omega arith))))
     ∙ put-longer t (nodesFrom f 0 m) (nodesFrom (λ k. g (is-odd k) (f (k / 2))) 0 next) (omega arith)
 
 -- ---- spread
@@ -241,27 +236,3 @@ unfolding put spread
 getD-spread t f n x h =
     let len = length-nodesFrom (λ x. lowWord (f x)) 0 n in
     List·getD-append (nodesFrom (λ x. lowWord (f x)) 0 n) _ 0 (2 * x) (omega arith) ∙ getD-low (λ x. lowWord (f x)) 0 n x h ∙ ap f (zero-add x)
-
--- zeroing all that was written leaves nothing of it
-pub zeroed-put : (t bs : List ℕ) (n : ℕ) → length bs ≤ n → n ≤ length t → zeroed n (put t 0 bs) ≡ zeroed n t
-zeroed-put t bs n few h =
-    let same = length-put t 0 bs (omega arith) in
-    let zeros = length-replicate {A = ℕ} n 0 in
-    zeroed-le n (put t 0 bs) (omega arith) ∙ put-longer t bs (replicate n 0) (omega arith) ∙ sym (zeroed-le n t h)
-
--- shares that were spread in t, written out or added from there, are the shares themselves
-pub tab-spread : (t : List ℕ) (f : ℕ → ℕ) (n : ℕ) {l : List ℕ} → l ≡ put t 0 (spread f n) → tab (λ x. getD l (2 * x) 0) n ≡ tab f n
-tab-spread t f n {l} e = tab-ext (λ x. getD l (2 * x) 0) f n (λ x h. ap (λ (r : List ℕ). getD r (2 * x) 0) e ∙ getD-spread t f n x h)
-
-pub added-spread : (w : ℕ) (t : List ℕ) (f : ℕ → ℕ) (s : List ℕ) {l : List ℕ} → l ≡ put t 0 (spread f (length s))
-    → added w (λ x. getD l (2 * x) 0) s ≡ added w f s
-unfolding added
-added-spread w t f s {l} e =
-    tab-ext (λ x. add w (getD s x 0) (getD l (2 * x) 0)) (λ x. add w (getD s x 0) (f x)) (length s)
-    (λ x h. ap (add w (getD s x 0)) (ap (λ (r : List ℕ). getD r (2 * x) 0) e ∙ getD-spread t f (length s) x h))
-
--- the scratch at the end
-pub zeroed-spread : (t : List ℕ) (f : ℕ → ℕ) (n : ℕ) {l l1 : List ℕ} → 2 * n ≤ length t → l ≡ put t 0 (spread f n) → l1 ≡ zeroed (2 * n) l → l1 ≡ zeroed (2 * n) t
-zeroed-spread t f n h e q =
-    let all = length-spread f n in
-    q ∙ ap (zeroed (2 * n)) e ∙ zeroed-put t (spread f n) (2 * n) (omega arith) h

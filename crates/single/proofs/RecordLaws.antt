@@ -1,7 +1,6 @@
 -- Laws of the record's bytes, and of the columns that a key by value keeps its correction words in.
---     sizes      in-limits, limits-of, count-most, length-for, length-none, tree-number, tree-height
+--     sizes      count-most, length-for, length-none, tree-number, tree-height
 --     lengths    length-headBytes, length-wordsBytes, length-recordBytes, length-imageBytes
---     stores     stored-first, stored-next
 --     fields     field-right, word-right, word-here
 --     tests      every-one, Accepted, accepted
 --     lcw        low-lcw, high-lcw, lcw-most, lcw-back
@@ -9,25 +8,28 @@
 --     columns    column-turn (a turn of a loop that fills one)
 --     parts      part-there, record-at-short
 -- Assumes nothing.
-use mathlib.Core.Path.{_≡_, refl, sym, ap, ap₂, _∙_}
+use mathlib.Core.Path.{_≡_, refl, sym, ap, _∙_}
 use mathlib.Core.Bool.{Bool, true, false, cond}
 use mathlib.Core.List.{List, [], _∷_, _++_, map, map-append, append-assoc}
 use Prim.Native.Nat.{ℕ, zero, suc, _+_, _*_, _-_, _≤_, _<_}
 use native.Mathlib.Nat.{add-zero, add-assoc}
 use native.Mathlib.Numerals.{add-one}
 use native.Mathlib.Omega.{arith}
-use borrow.Author.Tests.{le-ltb, ltb-false, leb-true, eqb-true}
-use lib.Dec.{ltb, eqb}
+use borrow.Author.Tests.{leb-true, eqb-true}
+use lib.Dec.{eqb}
 use lib.ListN.{length, take, drop, getD, set, length-append, length-take, length-drop, length-map}
 use lib.Seq.{drop-append-add}
 use Rattle.words.specs.declared.Word.{Word}
 use Rattle.words.specs.Word.{is-odd, bit, Fits}
 use Rattle.words.specs.declared.Tree.{Tree}
-use Rattle.words.specs.Height.{height, largest, heightNumber, treeFor}
+use Rattle.words.specs.Limits.{largestSingle}
+use Rattle.words.specs.Height.{height, heightNumber, treeFor}
 use Rattle.words.specs.Bytes.{leBytes, leNum, wordBytes, field, wordAt, put, stored}
-use Rattle.words.specs.Refusals.{Domain, every, onSuccess}
-use Rattle.words.proofs.ByteLaws.{length-leBytes, length-wordBytes, field-at, field-mid, field-none, put-put, put-next, length-put, stored-fits}
-use Rattle.words.proofs.TestLaws.{first-none, first-miss, first-clear, every-at, succeeded, refused}
+use Rattle.words.specs.Refusals.{every, onSuccess}
+use Rattle.words.proofs.ByteLaws.{length-leBytes, length-wordBytes, field-at, field-mid, field-none, put-put, length-put, stored-first}
+use Rattle.words.proofs.TestLaws.{every-at, succeeded, refused}
+use Rattle.words.proofs.HeightLaws.{limits-of}
+use Rattle.words.proofs.XorLaws.{word}
 use Rattle.words.proofs.HeightIsLeast.{height-le}
 use Rattle.single.specs.Rules.{Record}
 use Rattle.single.specs.Keys.{wordsFrom, column}
@@ -37,20 +39,10 @@ use Rattle.single.proofs.KeyLaws.{length-wordsFrom, column-set}
 
 -- ---- sizes
 
-pub in-limits : (s : ℕ) → 1 ≤ s → s ≤ largest → heightNumber s ≡ 0
-unfolding heightNumber
-in-limits s some most = first-miss _ _ (le-ltb s 1 some) ∙ first-miss _ _ (le-ltb largest s most) ∙ first-none
-
-pub limits-of : (s : ℕ) → heightNumber s ≡ 0 → (1 ≤ s) × (s ≤ largest)
-unfolding heightNumber
-limits-of s e =
-    let rows : List (Bool × ℕ) = (ltb s 1, Domain) ∷ (ltb largest s, Domain) ∷ [] in
-    (ltb-false s 1 (first-clear rows 0 tt e), ltb-false largest s (first-clear rows 1 tt e))
-
 pub count-most : (s : ℕ) → heightNumber s ≡ 0 → wordCount s ≤ 33
 count-most s e =
     let some : 1 ≤ s = limits-of s e .0 in
-    let most : s ≤ largest = limits-of s e .1 in
+    let most : s ≤ largestSingle = limits-of s e .1 in
     omega (arith, height-le s 34 some (omega arith) most)
 
 pub length-for : (s : ℕ) → heightNumber s ≡ 0 → lengthFor s ≡ recordLength s
@@ -93,17 +85,6 @@ pub length-imageBytes : (p : Bool) (r : Record) → length (imageBytes p r) ≡ 
 unfolding imageBytes
 length-imageBytes p r = simp (length-append, length-leBytes, length-recordBytes) (omega arith)
 
--- ---- stores one behind the other, each of which has room
-
-pub stored-first : (l0 : List ℕ) {l1 : List ℕ} (a : ℕ) (bs : List ℕ) → l1 ≡ stored l0 a bs → a + length bs ≤ length l0 → l1 ≡ put l0 a bs
-stored-first l0 a bs e room = e ∙ stored-fits l0 a bs room
-
-pub stored-next : (l0 : List ℕ) {l1 l2 : List ℕ} (a b : ℕ) (bs cs : List ℕ) → l1 ≡ put l0 a bs → l2 ≡ stored l1 b cs → b ≡ a + length bs → b + length cs ≤ length l0
-    → l2 ≡ put l0 a (bs ++ cs)
-stored-next l0 {l1} a b bs cs p q e room =
-    let long : length l1 ≡ length l0 = ap length p ∙ length-put l0 a bs (omega arith) in
-    put-next l0 a b bs cs p (stored-first l1 b cs q (omega arith)) e room
-
 -- ---- fields of what stands side by side
 
 pub field-right : (n : ℕ) (p q : List ℕ) (m a : ℕ) → length p ≡ m → field n (p ++ q) (m + a) ≡ field n q a
@@ -114,7 +95,7 @@ field-right n p q m a e =
 pub word-right : (p q : List ℕ) (m a : ℕ) → length p ≡ m → wordAt (p ++ q) (m + a) ≡ wordAt q a
 unfolding wordAt
 word-right p q m a e =
-    ap₂ {A = ℕ} {B = ℕ} {C = Word} (λ l h. record { lo = l; hi = h })
+    word
     (field-right 8 p q m a e)
     (ap (λ (k : ℕ). field 8 (p ++ q) k) (add-assoc m a 8) ∙ field-right 8 p q m (a + 8) e)
 
@@ -127,7 +108,7 @@ word-here a p q m e f =
     let long = length-leBytes 8 (a .lo) in
     let split : p ++ (low ++ high ++ q) ≡ p ++ (low ++ (high ++ q)) = ap (λ (r : List ℕ). p ++ r) (append-assoc low high q) in
     let further : p ++ (low ++ (high ++ q)) ≡ p ++ low ++ (high ++ q) = sym (append-assoc p low (high ++ q)) in
-    ap₂ {A = ℕ} {B = ℕ} {C = Word} (λ l h. record { lo = l; hi = h })
+    word
     (ap (λ (r : List ℕ). field 8 r m) split ∙ field-at 8 (a .lo) p (high ++ q) m e (f .low))
     (ap (λ (r : List ℕ). field 8 r (m + 8)) (split ∙ further) ∙ field-at 8 (a .hi) (p ++ low) q (m + 8) (simp length-append (omega arith)) (f .high))
 
@@ -213,7 +194,7 @@ pub words-turn : (l0 : List ℕ) {l1 : List ℕ} (a i n : ℕ) (lows highs : Lis
 words-turn l0 {l1} a i n lows highs w low high e h room =
     let long = length-wordBytes w in
     let one = stored-first l0 (a + 16 * i) (wordBytes w) e (omega arith) in
-    let same = ap₂ {A = ℕ} {B = ℕ} {C = Word} (λ x y. record { lo = x; hi = y }) low high in
+    let same = word low high in
     let next = ap (λ (v : Word). put l0 (a + 16 * i) (wordBytes v)) same in (
       ap length one ∙ length-put l0 (a + 16 * i) (wordBytes w) (omega arith),
       ap (λ (r : List ℕ). put r (a + 16 * (i + 1)) (wordsBytes (wordsFrom lows highs (i + 1) (n - (i + 1))))) (one ∙ next) ∙ sym (words-step l0 a i n lows highs h room),

@@ -13,17 +13,18 @@ use lib.ListN.{length, take, drop, getD, length-append, length-take, length-drop
 use lib.Seq.{length-take-le, getD-take, getD-drop, take-add, drop-drop, take-all}
 use Rattle.words.specs.declared.Word.{Word}
 use Rattle.words.specs.Word.{none, is-odd, bit, Fits, On128}
-use Rattle.words.specs.Height.{largest}
-use Rattle.words.specs.Bytes.{leBytes, leNum, wordBytes, field, wordAt}
+use Rattle.words.specs.Limits.{largestSingle}
+use Rattle.words.specs.Bytes.{leBytes, leNum, wordBytes, field, wordAt, AreBytes}
 use Rattle.words.specs.Refusals.{every}
 use Rattle.words.proofs.ByteLaws.{length-leBytes, length-wordBytes, leBytes-leNum, field-at, bytes-most}
 use Rattle.words.proofs.TestLaws.{every-none, every-pass, every-at}
 use Rattle.single.specs.Rules.{Record, tiny, made}
 use Rattle.single.specs.Promises.{AllFit, all-nil, all-cons}
 use Rattle.single.specs.Record.{lcwNumber, headBytes, wordsBytes, recordBytes, wordCount, recordLength, sizeIn, wordsIn, recordIn, isNone, zeroTests, recordTests, recordOk}
-use Rattle.single.specs.ReadBack.{Whole, Bytes, RecordReadsBack}
+use Rattle.single.specs.ReadBack.{Whole, RecordReadsBack}
 use Rattle.single.proofs.MadeFits.{made-fits}
-use Rattle.single.proofs.RecordLaws.{in-limits, limits-of, length-headBytes, length-recordBytes, field-right, word-right, word-here, Accepted, accepted, low-lcw, high-lcw, lcw-most, lcw-back, length-wordsIn}
+use Rattle.words.proofs.HeightLaws.{in-limits, limits-of}
+use Rattle.single.proofs.RecordLaws.{length-headBytes, length-recordBytes, field-right, word-right, word-here, accepted, low-lcw, high-lcw, lcw-most, lcw-back, length-wordsIn}
 
 -- ---- what is written is read
 
@@ -107,7 +108,7 @@ module _ (limit : ℕ) (r : Record) (w : Whole limit r) where
 abbrev pub piece : List ℕ → ℕ → ℕ → List ℕ
 piece l a n = take n (drop a l)
 
-bytes-piece : (l : List ℕ) (a n : ℕ) → Bytes l → Bytes (piece l a n)
+bytes-piece : (l : List ℕ) (a n : ℕ) → AreBytes l → AreBytes (piece l a n)
 bytes-piece l a n bytes i = go (ltb i n) refl
   where
     go : (b : Bool) → ltb i n ≡ b → getD (piece l a n) i 0 < 256
@@ -116,7 +117,7 @@ bytes-piece l a n bytes i = go (ltb i n) refl
         let past : n ≤ i = ltb-false i n e in
         rw (List·getD-eq-default (piece l a n) 0 {n = i} (simp length-take (omega arith))) (omega arith)
 
-module _ (l : List ℕ) (bytes : Bytes l) where
+module _ (l : List ℕ) (bytes : AreBytes l) where
   -- pieces side by side
   pub join : (a n m b : ℕ) → b ≡ a + n → piece l a n ++ piece l b m ≡ piece l a (n + m)
   join a n m b e =
@@ -157,7 +158,7 @@ module _ (l : List ℕ) (bytes : Bytes l) where
 
 -- ---- what is accepted is whole
 
-leNum-below : (bs : List ℕ) → Bytes bs → leNum bs < 256 ^ length bs
+leNum-below : (bs : List ℕ) → AreBytes bs → leNum bs < 256 ^ length bs
 unfolding leNum
 leNum-below [] bytes = lit< tt
 leNum-below (b ∷ bs) bytes =
@@ -173,7 +174,7 @@ is-none a e = go (eqb (a .lo) 0) refl e
     go true p q = ap₂ {A = ℕ} {B = ℕ} {C = Word} (λ l h. record { lo = l; hi = h }) (eqb-true (a .lo) 0 p) (eqb-true (a .hi) 0 q)
     go false p q = absurd (subst (λ (b : Bool). T (not b)) q tt)
 
-module _ (limit : ℕ) (l : List ℕ) (bytes : Bytes l) (ok : recordOk limit l ≡ true) where
+module _ (limit : ℕ) (l : List ℕ) (bytes : AreBytes l) (ok : recordOk limit l ≡ true) where
   field-below : (n a : ℕ) → field n l a < 256 ^ n
   unfolding field
   field-below n a = bytes-most (length (piece l a n)) n _ (simp length-take (omega arith)) (leNum-below (piece l a n) (bytes-piece l a n bytes))
@@ -212,7 +213,7 @@ module _ (limit : ℕ) (l : List ℕ) (bytes : Bytes l) (ok : recordOk limit l �
 
 -- ---- what is made is whole
 
-module _ (H : Word → Word) (on : On128 H) (S α : ℕ) (r0 r1 : Word) (f0 : Fits r0) (f1 : Fits r1) (β : ℕ) (p : Bool) (some : 1 ≤ S) (most : S ≤ largest) where
+module _ (H : Word → Word) (on : On128 H) (S α : ℕ) (r0 r1 : Word) (f0 : Fits r0) (f1 : Fits r1) (β : ℕ) (p : Bool) (some : 1 ≤ S) (most : S ≤ largestSingle) where
   sized : made H S α r0 r1 64 β p .size ≡ S
   sized = made-fits .sized H S α r0 r1 64 β p
 
@@ -221,7 +222,7 @@ module _ (H : Word → Word) (on : On128 H) (S α : ℕ) (r0 r1 : Word) (f0 : Fi
   unfolding made
   alone e = rw (eq-eqb S 1 (sym sized ∙ e))
 
-  whole-made : Whole largest (made H S α r0 r1 64 β p)
+  whole-made : Whole largestSingle (made H S α r0 r1 64 β p)
   unfolding tiny
   whole-made = record {
     some = rw sized some;

@@ -1,7 +1,7 @@
 -- On the way of alpha the two seeds stay delta apart, level by level, and delta is odd; at the last level the flipped bit of lcw
 -- keeps the leaves apart in bit 0. Assumes nothing.
 use mathlib.Core.Path.{_≡_, ap, _∙_}
-use mathlib.Core.Bool.{Bool, true, false, not}
+use mathlib.Core.Bool.{true, false, not}
 use Prim.Native.Nat.{ℕ, _-_, _/_}
 use Rattle.words.specs.declared.Word.{Word}
 use Rattle.words.specs.Word.{_⊕_, _when_, is-odd, odd, mark}

@@ -1,6 +1,6 @@
 -- The two shares of a cell add up: at alpha the leaves differ in bit 0, so one party takes the last word and the conversions
 -- cancel; at any other cell the leaves are equal, and the shares cancel. Assumes nothing.
-use mathlib.Core.Path.{_≡_, refl, sym, ap, _∙_}
+use mathlib.Core.Path.{_≡_, refl, ap, _∙_}
 use mathlib.Core.Bool.{Bool, true, false, not, cond}
 use mathlib.Core.Logic.{_≢_}
 use Prim.Native.Nat.{ℕ, zero, suc, _+_, _-_, _/_, _%_, _^_, _≤_, _<_}

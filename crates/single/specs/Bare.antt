@@ -9,7 +9,7 @@ use Prim.Native.Nat.{ℕ, _*_}
 use lib.Dec.{leb, ltb}
 use lib.ListN.{length}
 use Rattle.words.specs.declared.Word.{Word}
-use Rattle.words.specs.Height.{largest}
+use Rattle.words.specs.Limits.{largestSingle}
 use Rattle.words.specs.Bytes.{put}
 use Rattle.words.specs.Refusals.{Scratch, Key, Index, first, onSuccess}
 use Rattle.single.specs.declared.calls.Share.{Share}
@@ -18,7 +18,7 @@ use Rattle.single.specs.Nodes.{spread}
 use Rattle.single.specs.Record.{sizeIn, recordIn, recordOk}
 
 unfoldable pub recordShareNumber : List ℕ → ℕ → ℕ
-recordShareNumber l x = first ((not (recordOk largest l), Key) ∷ (leb (sizeIn l) x, Index) ∷ [])
+recordShareNumber l x = first ((not (recordOk largestSingle l), Key) ∷ (leb (sizeIn l) x, Index) ∷ [])
 
 unfoldable pub recordShare : (Word → Word) → Bool → List ℕ → ℕ → Share
 recordShare H p l x =
@@ -27,7 +27,7 @@ recordShare H p l x =
 
 -- a record, and the length of the slice
 unfoldable pub spreadNumber : List ℕ → ℕ → ℕ
-spreadNumber l len = first ((not (recordOk largest l), Key) ∷ (ltb len (2 * sizeIn l), Scratch) ∷ [])
+spreadNumber l len = first ((not (recordOk largestSingle l), Key) ∷ (ltb len (2 * sizeIn l), Scratch) ∷ [])
 
 -- the number, and the slice at exit: the share of cell x at 2x, 0 at 2x + 1
 pub record Spreading : Type 0 where

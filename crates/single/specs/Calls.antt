@@ -1,7 +1,6 @@
 -- The public calls of single keys (document 01, "Refusal numbers"): the answer and every lent slice at exit, together, as one function
 -- of what a call is given. Over any tree hash H; the code's own is put in where a contract cites these.
---     randomWord ws i      word i of a list of u64, two to a word, low half first; an odd last element makes none
---     wordsNeeded S        how many random words making uses
+--     wordsNeeded S        how many random words making uses; two u64 a word (`wordNo`), and an odd last one makes none
 --     generateKeys         making a pair: 1, 4, 7, 8
 --     evaluateAt           one cell of an image: 9, 10
 --     evaluateDomain       all cells: 9, 5, 8
@@ -16,21 +15,17 @@ use Prim.Native.Nat.{ℕ, _*_, _/_}
 use lib.Dec.{leb, ltb, eqb}
 use lib.ListN.{length, drop}
 use Rattle.words.specs.declared.Word.{Word}
-use Rattle.words.specs.Height.{largest}
+use Rattle.words.specs.Limits.{largestSingle}
 use Rattle.words.specs.Bytes.{put}
-use Rattle.words.specs.Cells.{added, zeroed}
+use Rattle.words.specs.Cells.{wordNo, added, zeroed}
 use Rattle.words.specs.Refusals.{Domain, Point, Scratch, Words, Room, Key, Index, Table, first, onSuccess}
 use Rattle.single.specs.declared.calls.Generated.{Generated}
 use Rattle.single.specs.declared.calls.Share.{Share}
 use Rattle.single.specs.Rules.{made, share, domain}
-use Rattle.single.specs.Nodes.{nodeAt}
 use Rattle.single.specs.Record.{sizeIn}
-use Rattle.single.specs.Image.{imageBytes, imageLength, partyIn, keptIn, imageOk}
+use Rattle.single.specs.Image.{imageBytes, imageLength, sideIn, keptIn, imageOk}
 
 -- ---- making a pair
-
-abbrev pub randomWord : List ℕ → ℕ → Word
-randomWord ws i = nodeAt ws i
 
 unfoldable pub wordsNeeded : ℕ → ℕ
 wordsNeeded S = cond (eqb S 1) 1 2
@@ -39,7 +34,7 @@ wordsNeeded S = cond (eqb S 1) 1 2
 unfoldable pub generateTests : ℕ → ℕ → ℕ → ℕ → ℕ → List (Bool × ℕ)
 generateTests S α n room0 room1 =
     (ltb S 1, Domain)
-    ∷ (ltb largest S, Domain)
+    ∷ (ltb largestSingle S, Domain)
     ∷ (leb S α, Point)
     ∷ (ltb (n / 2) (wordsNeeded S), Words)
     ∷ (ltb room0 (imageLength S), Room)
@@ -61,7 +56,7 @@ generating r k0 k1 = record { answer = r; key0 = k0; key1 = k1 }
 module _ (H : Word → Word) where
   -- party p's image
   unfoldable pub imageMade : ℕ → ℕ → ℕ → List ℕ → Bool → List ℕ
-  imageMade S α β ws p = imageBytes p (made H S α (randomWord ws 0) (randomWord ws 1) 64 β p)
+  imageMade S α β ws p = imageBytes p (made H S α (wordNo ws 0) (wordNo ws 1) 64 β p)
 
   unfoldable pub generateKeys : ℕ → ℕ → ℕ → List ℕ → List ℕ → List ℕ → Generating
   generateKeys S α β ws k0 k1 =
@@ -80,7 +75,7 @@ sizeOf l = sizeIn (drop 8 l)
 
 -- its party's share of cell x
 abbrev pub shareIn : (Word → Word) → List ℕ → ℕ → ℕ
-shareIn H l x = share H 64 (partyIn l) (keptIn l) x
+shareIn H l x = share H 64 (sideIn l) (keptIn l) x
 
 -- ---- one cell
 
@@ -121,7 +116,7 @@ module _ (H : Word → Word) where
   unfoldable pub evaluateDomain : List ℕ → List ℕ → List ℕ → Evaluating
   evaluateDomain l s o =
       let n = evaluateDomainNumber l (length s) (length o) in
-      onSuccess n (evaluating 0 (zeroed (2 * sizeOf l) s) (put o 0 (domain H 64 (partyIn l) (keptIn l)))) (evaluating n s o)
+      onSuccess n (evaluating 0 (zeroed (2 * sizeOf l) s) (put o 0 (domain H 64 (sideIn l) (keptIn l)))) (evaluating n s o)
 
   abbrev pub EvaluatesDomain : List ℕ → List ℕ → List ℕ → Evaluating → Type 0
   EvaluatesDomain l s o e = e ≡ evaluateDomain l s o
@@ -156,7 +151,7 @@ module _ (H : Word → Word) where
 -- ---- the promises leave no choice
 
 pub record CallsDetermined : Type 0 where
-  pub generating : (H : Word → Word) (S α β : ℕ) (ws k0 k1 : List ℕ) (g h : Generating) → Generates H S α β ws k0 k1 g → Generates H S α β ws k0 k1 h → g ≡ h
-  pub one-cell : (H : Word → Word) (l : List ℕ) (x : ℕ) (r s : Share) → EvaluatesAt H l x r → EvaluatesAt H l x s → r ≡ s
-  pub all-cells : (H : Word → Word) (l s o : List ℕ) (e f : Evaluating) → EvaluatesDomain H l s o e → EvaluatesDomain H l s o f → e ≡ f
+  pub making : (H : Word → Word) (S α β : ℕ) (ws k0 k1 : List ℕ) (g h : Generating) → Generates H S α β ws k0 k1 g → Generates H S α β ws k0 k1 h → g ≡ h
+  pub oneCell : (H : Word → Word) (l : List ℕ) (x : ℕ) (r s : Share) → EvaluatesAt H l x r → EvaluatesAt H l x s → r ≡ s
+  pub allCells : (H : Word → Word) (l s o : List ℕ) (e f : Evaluating) → EvaluatesDomain H l s o e → EvaluatesDomain H l s o f → e ≡ f
   pub adding : (H : Word → Word) (l s t : List ℕ) (a b : Adding) → AddsTo H l s t a → AddsTo H l s t b → a ≡ b

@@ -4,19 +4,18 @@
 --     pairOf H S α β r0 r1     both parties' keys
 -- Assumes nothing.
 use mathlib.Core.Bool.{Bool, true, false}
-use mathlib.Core.List.{map}
 use Prim.Native.Nat.{ℕ}
 use Rattle.words.specs.declared.Word.{Word}
 use Rattle.single.specs.declared.make.Pair.{Pair}
 use Rattle.single.specs.declared.make.Path.{Path}
 use Rattle.single.specs.declared.tree.End.{End}
 use Rattle.single.specs.Rules.{descend, corrections, hcwOf, lcwOf, final, lastWord, made}
-use Rattle.single.specs.Keys.{column, keyOf}
+use Rattle.single.specs.Keys.{columnsOf, keyOf}
 
 unfoldable pub pathOf : (Word → Word) → Word → ℕ → ℕ → Word → Word → Path
 pathOf H δ y n t0 t1 =
     let cws = corrections H δ y n t0 t1 in
-    record { s0 = descend H y cws t0; s1 = descend H y cws t1; lows = column (map (λ (a : Word). a .lo) cws); highs = column (map (λ (a : Word). a .hi) cws) }
+    record { s0 = descend H y cws t0; s1 = descend H y cws t1; lows = columnsOf cws .lows; highs = columnsOf cws .highs }
 
 unfoldable pub endOf : (Word → Word) → ℕ → Bool → Word → Word → End
 endOf H β a s0 s1 =

@@ -1,6 +1,5 @@
 -- A layer of the tree in a lent slice of u64: node i stands at 2i, low half, and 2i + 1, high half (document 01, "Numbers": the
--- whole single domain works in 2S elements).
---     nodeAt l i             node i of a slice
+-- whole single domain works in 2S elements). `wordNo` of words is node i of a slice.
 --     nodesFrom f i n        the nodes f i .. f (i + n - 1) as they stand
 --     grown g l k            node k of the next layer: g (is k odd) of its parent, node k / 2 of l
 --     layer g n l            l with the n nodes of the next layer in place of its own
@@ -8,14 +7,11 @@
 -- Assumes nothing.
 use mathlib.Core.Bool.{Bool}
 use mathlib.Core.List.{List, [], _∷_}
-use Prim.Native.Nat.{ℕ, zero, suc, _+_, _*_, _/_}
-use lib.ListN.{getD}
+use Prim.Native.Nat.{ℕ, zero, suc, _/_}
 use Rattle.words.specs.declared.Word.{Word}
 use Rattle.words.specs.Word.{is-odd}
 use Rattle.words.specs.Bytes.{put}
-
-unfoldable pub nodeAt : List ℕ → ℕ → Word
-nodeAt l i = record { lo = getD l (2 * i) 0; hi = getD l (2 * i + 1) 0 }
+use Rattle.words.specs.Cells.{wordNo}
 
 unfoldable pub nodesFrom : (ℕ → Word) → ℕ → ℕ → List ℕ
 nodesFrom f i zero = []
@@ -24,13 +20,14 @@ nodesFrom f i (suc n) = f i .lo ∷ f i .hi ∷ nodesFrom f (suc i) n
 -- ---- one layer
 
 unfoldable pub grown : (Bool → Word → Word) → List ℕ → ℕ → Word
-grown g l k = g (is-odd k) (nodeAt l (k / 2))
+grown g l k = g (is-odd k) (wordNo l (k / 2))
 
 unfoldable pub layer : (Bool → Word → Word) → ℕ → List ℕ → List ℕ
 layer g n l = put l 0 (nodesFrom (grown g l) 0 n)
 
 -- ---- shares in place of leaves
 
+-- a word of a low half alone
 abbrev pub lowWord : ℕ → Word
 lowWord x = record { lo = x; hi = 0 }
 

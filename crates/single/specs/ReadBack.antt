@@ -8,21 +8,22 @@
 use mathlib.Core.Path.{_≡_}
 use mathlib.Core.Bool.{Bool, true, false}
 use mathlib.Core.List.{List}
-use Prim.Native.Nat.{ℕ, _≤_, _<_}
-use lib.ListN.{length, getD}
+use Prim.Native.Nat.{ℕ, _≤_}
+use lib.ListN.{length}
 use Rattle.words.specs.declared.Word.{Word}
 use Rattle.words.specs.Word.{none, Fits, On128}
-use Rattle.words.specs.Height.{largest}
+use Rattle.words.specs.Limits.{largestSingle}
+use Rattle.words.specs.Bytes.{AreBytes}
 use Rattle.single.specs.Rules.{Record, made}
 use Rattle.single.specs.Keys.{recordOf, keyOf, Sound}
 use Rattle.single.specs.Promises.{FitsRecord}
 use Rattle.single.specs.Record.{recordBytes, recordIn, recordOk, wordCount}
-use Rattle.single.specs.Image.{imageBytes, imageOk, partyIn, keptIn}
+use Rattle.single.specs.Image.{imageBytes, imageOk, sideIn, keptIn}
 
 pub record Whole (limit : ℕ) (r : Record) : Type 0 where
   pub some : 1 ≤ r .size
   pub within : r .size ≤ limit
-  pub treed : r .size ≤ largest
+  pub treed : r .size ≤ largestSingle
   pub counted : length (r .cws) ≡ wordCount (r .size)
   pub fits : FitsRecord 64 r
   -- with S = 1 seed, hcw and lcw are zero
@@ -31,23 +32,19 @@ pub record Whole (limit : ℕ) (r : Record) : Type 0 where
   pub no-lcw0 : r .size ≡ 1 → r .lcw0 ≡ false
   pub no-lcw1 : r .size ≡ 1 → r .lcw1 ≡ false
 
--- every element is a byte, as in every lent slice of bytes
-abbrev pub Bytes : List ℕ → Type 0
-Bytes l = (i : ℕ) → getD l i 0 < 256
-
 pub record RecordReadsBack : Type 0 where
   pub accepted : (limit : ℕ) (r : Record) → Whole limit r → recordOk limit (recordBytes r) ≡ true
   pub read : (limit : ℕ) (r : Record) → Whole limit r → recordIn (recordBytes r) ≡ r
-  pub written : (limit : ℕ) (l : List ℕ) → Bytes l → recordOk limit l ≡ true → recordBytes (recordIn l) ≡ l
-  pub whole : (limit : ℕ) (l : List ℕ) → Bytes l → recordOk limit l ≡ true → Whole limit (recordIn l)
-  pub making : (H : Word → Word) → On128 H → (S α : ℕ) (r0 r1 : Word) → Fits r0 → Fits r1 → (β : ℕ) (p : Bool) → 1 ≤ S → S ≤ largest
-      → Whole largest (made H S α r0 r1 64 β p)
+  pub written : (limit : ℕ) (l : List ℕ) → AreBytes l → recordOk limit l ≡ true → recordBytes (recordIn l) ≡ l
+  pub whole : (limit : ℕ) (l : List ℕ) → AreBytes l → recordOk limit l ≡ true → Whole limit (recordIn l)
+  pub making : (H : Word → Word) → On128 H → (S α : ℕ) (r0 r1 : Word) → Fits r0 → Fits r1 → (β : ℕ) (p : Bool) → 1 ≤ S → S ≤ largestSingle
+      → Whole largestSingle (made H S α r0 r1 64 β p)
 
 pub record ImageReadsBack : Type 0 where
-  pub accepted : (p : Bool) (r : Record) → Whole largest r → imageOk (imageBytes p r) ≡ true
-  pub party : (p : Bool) (r : Record) → partyIn (imageBytes p r) ≡ p
-  pub read : (p : Bool) (r : Record) → Whole largest r → keptIn (imageBytes p r) ≡ r
-  pub written : (l : List ℕ) → Bytes l → imageOk l ≡ true → imageBytes (partyIn l) (keptIn l) ≡ l
+  pub accepted : (p : Bool) (r : Record) → Whole largestSingle r → imageOk (imageBytes p r) ≡ true
+  pub party : (p : Bool) (r : Record) → sideIn (imageBytes p r) ≡ p
+  pub read : (p : Bool) (r : Record) → Whole largestSingle r → keptIn (imageBytes p r) ≡ r
+  pub written : (l : List ℕ) → AreBytes l → imageOk l ≡ true → imageBytes (sideIn l) (keptIn l) ≡ l
 
 pub record KeysHoldRecords : Type 0 where
   pub held : (r : Record) → recordOf (keyOf r) ≡ r

@@ -14,19 +14,19 @@
 --     recordAt limit l a      the length of the record that stands in l from a on
 -- Assumes nothing.
 use mathlib.Core.Bool.{Bool, true, false, cond}
-use mathlib.Core.List.{List, [], _∷_, _++_, map}
+use mathlib.Core.List.{List, [], _∷_, _++_}
 use Prim.Native.Nat.{ℕ, zero, suc, _+_, _*_, _-_}
 use lib.Dec.{leb, eqb}
 use lib.ListN.{length, take, drop}
 use Rattle.words.specs.declared.Word.{Word}
 use Rattle.words.specs.Word.{none, bit}
-use Rattle.words.specs.Height.{height, largest, heightNumber}
+use Rattle.words.specs.Limits.{largestSingle}
+use Rattle.words.specs.Height.{height, heightNumber}
 use Rattle.words.specs.Bytes.{leBytes, wordBytes, field, wordAt}
 use Rattle.words.specs.Refusals.{every, onSuccess}
 use Rattle.single.specs.declared.SingleKey.{SingleKey}
-use Rattle.single.specs.declared.record.Columns.{Columns}
 use Rattle.single.specs.Rules.{Record}
-use Rattle.single.specs.Keys.{column, keyOf}
+use Rattle.single.specs.Keys.{keyOf}
 
 -- ---- out
 
@@ -77,12 +77,6 @@ recordIn l = record {
   cws = wordsIn l 56 (wordCount (sizeIn l));
 }
 
--- ---- the columns of a key by value
-
--- the low and the high halves, zeros behind them
-abbrev pub columnsOf : List Word → Columns
-columnsOf ws = record { lows = column (map (λ (a : Word). a .lo) ws); highs = column (map (λ (a : Word). a .hi) ws) }
-
 -- ---- what is a record
 
 unfoldable pub isNone : Word → Bool
@@ -112,7 +106,7 @@ noRecord = record { size = 0; seed = none; hcw = none; lcw0 = false; lcw1 = fals
 
 -- no bit set where the bytes are no record
 unfoldable pub keyIn : List ℕ → SingleKey
-keyIn l = keyOf (cond (recordOk largest l) (recordIn l) noRecord)
+keyIn l = keyOf (cond (recordOk largestSingle l) (recordIn l) noRecord)
 
 -- the bytes from a on that a record of the size found there takes up
 abbrev pub recordPart : List ℕ → ℕ → List ℕ

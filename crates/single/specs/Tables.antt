@@ -4,7 +4,7 @@
 --     accepts, after        whether a call is taken; the table after it
 --     run, taken            the table after a run of calls; the images that the run took
 --     Demand3               two runs over one list of pairs: at each cell the tables sum to what was there and all that was posted
---     Posting, posted       what the maker of a single key is given, and the values that it posts
+--     Posting, posted       a value at a point and two random words, of which a pair is made; the values that it posts
 -- Assumes nothing.
 use mathlib.Core.Path.{_≡_}
 use mathlib.Core.Bool.{Bool, true, false, cond}

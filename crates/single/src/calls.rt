@@ -3,17 +3,15 @@
 // Each promise is one equation: the answer and every lent slice at exit, together, are the function of specs/Calls.antt of what the
 // call was given. A refusal leaves every slice as it was.
 ghost use mathlib.Core.Path.{_≡_};
-ghost use Prim.Native.Nat.{_+_, _≤_};
-ghost use lib.ListN.{getD};
 ghost use Rattle.cipher.specs.TreeHash.{treeHash};
 ghost use Rattle.single.specs.Calls as spec;
 use crate::image;
 use crate::make;
-use crate::record;
 use crate::table;
 use crate::tree;
 use cipher::TreeHash;
-use words::Word;
+use words::cells;
+use words::limits;
 use words::refusals;
 
 // What making answers: 0, the length of either image and the random words used; or a refusal's number and zeros.
@@ -48,7 +46,7 @@ fn generate_number(domain: u64, point: u64, elements: usize, room0: usize, room1
     if domain < 1 {
         return refusals::DOMAIN;
     }
-    if record::LARGEST < domain {
+    if limits::LARGEST_SINGLE < domain {
         return refusals::DOMAIN;
     }
     if domain <= point {
@@ -65,17 +63,6 @@ fn generate_number(domain: u64, point: u64, elements: usize, room0: usize, room1
         return refusals::ROOM;
     }
     0
-}
-
-// The word of two elements from `at` on.
-fn random_word(elements: &[u64], at: usize) -> Word
-    requires { ⌜ at ≤ 2 ⌝ }
-    ensures { λ r. ⌜ r ≡ record { lo = getD (now (elements .entry)) at 0; hi = getD (now (elements .entry)) (at + 1) 0 } ⌝ }
-{
-    Word {
-        lo: record::element(elements, at),
-        hi: record::element(elements, at + 1),
-    }
 }
 
 // The images of a pair with `value` at `point`, party 0's in `key0` and party 1's in `key1`. Refusals: 1, 4, 7, 8.
@@ -98,8 +85,8 @@ pub fn generate_keys(
             words: 0,
         };
     }
-    let r0 = random_word(words, 0);
-    let r1 = random_word(words, 2);
+    let r0 = cells::word_no(words, 0);
+    let r1 = cells::word_no(words, 1);
     let pair = make::make_pair(TreeHash::new(), domain, point, value, r0, r1);
     let k0 = pair.key0;
     let k1 = pair.key1;
@@ -134,7 +121,7 @@ pub fn evaluate_at(key: &[u8], index: u64) -> Share
     if number != 0 {
         return Share { number, share: 0 };
     }
-    let party = image::party_in(key);
+    let party = image::side_in(key);
     let k = image::get_image(key);
     let share = tree::share(TreeHash::new(), party, k, index);
     Share { number: 0, share }
@@ -149,7 +136,7 @@ fn evaluate_domain_number(key: &[u8], scratch: usize, room: usize) -> u64
         return refusals::KEY;
     }
     let size = image::size_of(key);
-    if (scratch as u64) < 2 * size {
+    if ((scratch / 2) as u64) < size {
         return refusals::SCRATCH;
     }
     if (room as u64) < size {
@@ -167,9 +154,10 @@ pub fn evaluate_domain(key: &[u8], scratch: &mut [u64], out: &mut [u64]) -> u64
     if number != 0 {
         return number;
     }
-    let party = image::party_in(key);
-    let k = image::get_image(key);
-    table::write_domain(TreeHash::new(), party, k, scratch, out);
+    let n = image::size_of(key) as usize;
+    table::spread_image(key, scratch);
+    table::write_shares(scratch, n, out);
+    cells::zero_first(scratch, 2 * n);
     0
 }
 
@@ -185,7 +173,7 @@ fn add_to_number(key: &[u8], cells: usize, scratch: usize) -> u64
     if cells as u64 != size {
         return refusals::TABLE;
     }
-    if (scratch as u64) < 2 * size {
+    if ((scratch / 2) as u64) < size {
         return refusals::SCRATCH;
     }
     0
@@ -201,8 +189,8 @@ pub fn add_to(key: &[u8], scratch: &mut [u64], table: &mut [u64]) -> u64
     if number != 0 {
         return number;
     }
-    let party = image::party_in(key);
-    let k = image::get_image(key);
-    table::add_domain(TreeHash::new(), party, k, scratch, table);
+    table::spread_image(key, scratch);
+    table::add_shares(scratch, table);
+    cells::zero_first(scratch, 2 * table.len());
     0
 }

@@ -11,7 +11,7 @@ ghost use Rattle.words.specs.Bytes.{put};
 ghost use Rattle.cipher.specs.TreeHash.{hashBy};
 ghost use Rattle.single.specs.Rules as rule;
 ghost use Rattle.single.specs.Keys.{wordsOf, recordOf, worth, Sound};
-ghost use Rattle.single.specs.Nodes.{nodeAt, nodesFrom, grown, layer, lowWord, spread};
+ghost use Rattle.single.specs.Nodes.{nodesFrom, grown, layer, lowWord, spread};
 use crate::SingleKey;
 use crate::tree::End;
 use crate::tree::end_in;
@@ -19,19 +19,7 @@ use crate::tree::moved;
 use crate::tree::share_of;
 use cipher::TreeHash;
 use words::Word;
-
-// ---- nodes
-
-// Node i.
-fn node(nodes: &[u64], i: usize) -> Word
-    requires { ⌜ 2 * i + 1 < length (now nodes) ⌝ }
-    ensures { λ r. ⌜ r ≡ nodeAt (now (nodes .entry)) i ⌝ }
-{
-    Word {
-        lo: nodes[2 * i],
-        hi: nodes[2 * i + 1],
-    }
-}
+use words::cells;
 
 // Stores node i.
 fn set_node(nodes: &mut [u64], i: usize, w: Word)
@@ -50,7 +38,7 @@ fn grow(h: TreeHash, cw: Word, i: usize, next: usize, nodes: &mut [u64])
     ensures { λ _. ⌜ now (nodes .exit) ≡ put (now (nodes .entry)) (2 * (2 * i))
         (nodesFrom (grown (λ a s. rule.step (hashBy h) a cw s) (now (nodes .entry))) (2 * i) (cond (ltb (2 * i + 1) next) 2 1)) ⌝ }
 {
-    let s = node(nodes, i);
+    let s = cells::word_no(nodes, i);
     let x = h.hash(s);
     set_node(nodes, 2 * i, moved(x, false, cw, s));
     if 2 * i + 1 < next {
@@ -100,7 +88,7 @@ fn grow_last(h: TreeHash, party: bool, e: End, i: usize, cells: usize, nodes: &m
     ensures { λ _. ⌜ now (nodes .exit) ≡ put (now (nodes .entry)) (2 * (2 * i))
         (nodesFrom (grown (λ a s. lowWord (worth (hashBy h) 64 party e a s)) (now (nodes .entry))) (2 * i) (cond (ltb (2 * i + 1) cells) 2 1)) ⌝ }
 {
-    let s = node(nodes, i);
+    let s = cells::word_no(nodes, i);
     set_node(
         nodes,
         2 * i,

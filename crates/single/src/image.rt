@@ -11,6 +11,7 @@ ghost use Rattle.single.specs.Calls.{sizeOf};
 use crate::SingleKey;
 use crate::record;
 use words::bytes;
+use words::limits;
 
 // The bytes of an image for `size` cells.
 pub(crate) fn image_length(size: u64) -> u64
@@ -35,12 +36,12 @@ pub(crate) fn image_ok(l: &[u8]) -> bool
     if bytes::get_u32(l, 4) != 8 {
         return false;
     }
-    record::record_ok(&l[8..], record::LARGEST)
+    record::record_ok(&l[8..], limits::LARGEST_SINGLE)
 }
 
 // The party: false for 0, true for 1.
-pub(crate) fn party_in(l: &[u8]) -> bool
-    ensures { λ r. ⌜ r ≡ spec.partyIn (now (l .entry)) ⌝ }
+pub(crate) fn side_in(l: &[u8]) -> bool
+    ensures { λ r. ⌜ r ≡ spec.sideIn (now (l .entry)) ⌝ }
 {
     bytes::get_u32(l, 0) == 1
 }

@@ -2,7 +2,8 @@
 ghost use mathlib.Core.Path.{_≡_};
 ghost use mathlib.Core.Bool.{true, false};
 ghost use Prim.Native.Nat.{_-_, _≤_, _<_};
-ghost use Rattle.words.specs.Height.{height, largest};
+ghost use Rattle.words.specs.Limits.{largestSingle};
+ghost use Rattle.words.specs.Height.{height};
 ghost use Rattle.cipher.specs.TreeHash.{hashBy};
 ghost use Rattle.single.specs.Rules as rule;
 ghost use Rattle.single.specs.Keys.{keyOf};
@@ -128,7 +129,7 @@ fn make_tiny(beta: u64, r0: Word) -> Pair
 
 // The number of levels but the last.
 fn levels(size: u64) -> usize
-    requires { ⌜ (1 < size) × (size ≤ largest) ⌝ }
+    requires { ⌜ (1 < size) × (size ≤ largestSingle) ⌝ }
     ensures { λ r. ⌜ r ≡ height size - 1 ⌝ }
 {
     (words::height(size).height - 1) as usize
@@ -136,7 +137,7 @@ fn levels(size: u64) -> usize
 
 // The pair over two cells or more: the first word is for delta, the second is seed 0.
 fn make_tall(h: TreeHash, size: u64, alpha: u64, beta: u64, r0: Word, r1: Word) -> Pair
-    requires { ⌜ (1 < size) × (size ≤ largest) ⌝ }
+    requires { ⌜ (1 < size) × (size ≤ largestSingle) ⌝ }
     ensures { λ r. ⌜ r ≡ pairOf (hashBy h) size alpha beta r0 r1 ⌝ }
 {
     let delta = r0.marked();
@@ -165,7 +166,7 @@ fn make_tall(h: TreeHash, size: u64, alpha: u64, beta: u64, r0: Word, r1: Word) 
 
 // The pair over `size` cells with beta at alpha.
 pub(crate) fn make_pair(h: TreeHash, size: u64, alpha: u64, beta: u64, r0: Word, r1: Word) -> Pair
-    requires { ⌜ (1 ≤ size) × (size ≤ largest) ⌝ }
+    requires { ⌜ (1 ≤ size) × (size ≤ largestSingle) ⌝ }
     ensures { λ r. ⌜ r ≡ pairOf (hashBy h) size alpha beta r0 r1 ⌝ }
 {
     if size == 1 {

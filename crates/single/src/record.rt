@@ -3,21 +3,21 @@
 // A read takes bytes that are not there as none; a write that does not fit writes nothing and answers Room.
 ghost use mathlib.Core.Path.{_≡_};
 ghost use mathlib.Core.Bool.{true};
+ghost use mathlib.Core.List.{_++_};
 ghost use Prim.Native.Nat.{_+_, _*_, _≤_};
 ghost use lib.Dec.{leb};
-ghost use lib.ListN.{length, getD};
-ghost use Rattle.words.specs.Height.{largest};
-ghost use Rattle.words.specs.Bytes.{put, stored, storedNumber};
+ghost use lib.ListN.{length};
+ghost use Rattle.words.specs.Limits.{largestSingle};
+ghost use Rattle.words.specs.Bytes.{leBytes, wordBytes, put, stored, storedNumber};
 ghost use Rattle.words.specs.Refusals.{every};
-ghost use Rattle.single.specs.Keys.{wordsFrom, recordOf, keyOf};
+ghost use Rattle.single.specs.Keys.{wordsFrom, recordOf, columnsOf, keyOf};
 ghost use Rattle.single.specs.Record as spec;
 use crate::SingleKey;
 use words::Word;
 use words::bytes;
+use words::cells;
+use words::limits;
 use words::refusals;
-
-// The largest single domain: 2^34 cells.
-pub(crate) const LARGEST: u64 = 0x4_0000_0000;
 
 // ---- lengths
 
@@ -89,7 +89,7 @@ pub fn record_at(l: &[u8], at: usize, limit: u64) -> u64
     ensures { λ r. ⌜ r ≡ spec.recordAt limit (now (l .entry)) at ⌝ }
 {
     let n = record_length(bytes::get_u64(l, at));
-    if !has_part(l.len(), at, n as usize) {
+    if !bytes::has_room(l.len(), at, n as usize) {
         return 0;
     }
     let end = at + n as usize;
@@ -97,19 +97,6 @@ pub fn record_at(l: &[u8], at: usize, limit: u64) -> u64
         return n;
     }
     0
-}
-
-// Whether n bytes from `at` on are there.
-fn has_part(len: usize, at: usize, n: usize) -> bool
-    ensures { λ r. ⌜ r ≡ leb (at + n) len ⌝ }
-{
-    if len < n {
-        return false;
-    }
-    if len - n < at {
-        return false;
-    }
-    true
 }
 
 // ---- out
@@ -130,6 +117,16 @@ fn lcw_number(lcw0: bool, lcw1: bool) -> u64
     0
 }
 
+// Size, seed and hcw, for which there is room.
+fn put_seeds(buf: &mut [u8], at: usize, size: u64, seed: Word, hcw: Word)
+    requires { ⌜ at + 40 ≤ length (now buf) ⌝ }
+    ensures { λ _. ⌜ now (buf .exit) ≡ put (now (buf .entry)) at (leBytes 8 size ++ wordBytes seed ++ wordBytes hcw) ⌝ }
+{
+    bytes::put_u64(buf, at, size);
+    bytes::put_word(buf, at + 8, seed);
+    bytes::put_word(buf, at + 24, hcw);
+}
+
 // The fields before the correction words, for which there is room.
 fn put_head(buf: &mut [u8], at: usize, key: SingleKey)
     requires { ⌜ at + 56 ≤ length (now buf) ⌝ }
@@ -137,21 +134,9 @@ fn put_head(buf: &mut [u8], at: usize, key: SingleKey)
 {
     let seed = key.seed;
     let hcw = key.hcw;
-    bytes::put_u64(buf, at, key.size);
-    bytes::put_word(buf, at + 8, seed);
-    bytes::put_word(buf, at + 24, hcw);
+    put_seeds(buf, at, key.size, seed, hcw);
     bytes::put_u64(buf, at + 40, lcw_number(key.lcw0, key.lcw1));
     bytes::put_u64(buf, at + 48, key.last);
-}
-
-// Element i; 0 behind the end.
-pub(crate) fn element(column: &[u64], i: usize) -> u64
-    ensures { λ r. ⌜ r ≡ getD (now (column .entry)) i 0 ⌝ }
-{
-    if i < column.len() {
-        return column[i];
-    }
-    0
 }
 
 // The first n words of two columns, for which there is room.
@@ -162,8 +147,8 @@ fn put_words(buf: &mut [u8], at: usize, n: usize, lows: &[u64], highs: &[u64])
     let mut i: usize = 0;
     while i < n {
         let w = Word {
-            lo: element(lows, i),
-            hi: element(highs, i),
+            lo: cells::element(lows, i),
+            hi: cells::element(highs, i),
         };
         bytes::put_word(buf, at + 16 * i, w);
         i += 1;
@@ -180,7 +165,7 @@ fn has_room(len: usize, at: usize, count: usize) -> bool
     if (len - 56) / 16 < count {
         return false;
     }
-    has_part(len, at, 56 + 16 * count)
+    bytes::has_room(len, at, 56 + 16 * count)
 }
 
 // Stores the record that a key holds from `at` on and answers 0, or answers Room and stores nothing. A key whose count is not
@@ -211,7 +196,7 @@ struct Columns {
 // The n correction words of a record.
 fn get_words(l: &[u8], n: usize) -> Columns
     requires { ⌜ (n ≤ 33) × (56 + 16 * n ≤ length (now l)) ⌝ }
-    ensures { λ r. ⌜ r ≡ spec.columnsOf (spec.wordsIn (now (l .entry)) 56 n) ⌝ }
+    ensures { λ r. ⌜ r ≡ columnsOf (spec.wordsIn (now (l .entry)) 56 n) ⌝ }
 {
     let mut lows = [0u64; 33];
     let mut highs = [0u64; 33];
@@ -227,7 +212,7 @@ fn get_words(l: &[u8], n: usize) -> Columns
 
 // The key that a record is read into.
 pub(crate) fn get_key(l: &[u8]) -> SingleKey
-    requires { ⌜ spec.recordOk largest (now l) ≡ true ⌝ }
+    requires { ⌜ spec.recordOk largestSingle (now l) ≡ true ⌝ }
     ensures { λ r. ⌜ r ≡ keyOf (spec.recordIn (now (l .entry))) ⌝ }
 {
     let seed = bytes::get_word(l, 8);
@@ -271,7 +256,7 @@ pub(crate) fn no_key() -> SingleKey
 pub fn get_record(l: &[u8]) -> SingleKey
     ensures { λ r. ⌜ r ≡ spec.keyIn (now (l .entry)) ⌝ }
 {
-    if record_ok(l, LARGEST) {
+    if record_ok(l, limits::LARGEST_SINGLE) {
         return get_key(l);
     }
     no_key()

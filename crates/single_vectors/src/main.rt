@@ -275,11 +275,12 @@ fn lent() {
     let mut t4 = [9u64; 4];
     let mut t5 = [9u64; 5];
     let mut t6 = [9u64; 6];
+    let mut u6 = [9u64; 6];
     domain_in(b"S 5, scratch 9, room 4", &mut s9, &mut t4);
     domain_in(b"S 5, scratch 10, room 4", &mut s10, &mut t4);
     domain_in(b"S 5, scratch 11, room 6", &mut s11, &mut t6);
     add_in(b"S 5, scratch 9, table 4", &mut s9, &mut t4);
-    add_in(b"S 5, scratch 10, table 6", &mut s10, &mut t6);
+    add_in(b"S 5, scratch 10, table 6", &mut s10, &mut u6);
     add_in(b"S 5, scratch 9, table 5", &mut s9, &mut t5);
     add_in(b"S 5, scratch 10, table 5", &mut s10, &mut t5);
 }

@@ -4,7 +4,7 @@
 --     field          field-zero, field-suc, field-none, field-short, field-eight, field-at; how loops read and write: put-step,
 --                    field-down, bytes-down, bytes-most
 --     parts          put-left, put-right, put-mid, take-mid, field-mid
---     stored         stored-fits, stored-not, number-fits, number-not
+--     stored         stored-fits, stored-not, number-fits, number-not; one behind the other: stored-first, stored-next
 -- Assumes nothing.
 use mathlib.Core.Path.{_≡_, refl, sym, ap, ap₂, _∙_, subst}
 use mathlib.Core.Bool.{Bool, true, false, cond}
@@ -243,3 +243,13 @@ number-fits l a bs h = rw (le-leb (a + length bs) (length l) h)
 
 pub number-not : (l : List ℕ) (a : ℕ) (bs : List ℕ) → length l < a + length bs → storedNumber l a bs ≡ Room
 number-not l a bs h = rw (lt-leb (a + length bs) (length l) h)
+
+-- stores one behind the other, each of which has room
+pub stored-first : (l0 : List ℕ) {l1 : List ℕ} (a : ℕ) (bs : List ℕ) → l1 ≡ stored l0 a bs → a + length bs ≤ length l0 → l1 ≡ put l0 a bs
+stored-first l0 a bs e room = e ∙ stored-fits l0 a bs room
+
+pub stored-next : (l0 : List ℕ) {l1 l2 : List ℕ} (a b : ℕ) (bs cs : List ℕ) → l1 ≡ put l0 a bs → l2 ≡ stored l1 b cs → b ≡ a + length bs → b + length cs ≤ length l0
+    → l2 ≡ put l0 a (bs ++ cs)
+stored-next l0 {l1} a b bs cs p q e room =
+    let long : length l1 ≡ length l0 = ap length p ∙ length-put l0 a bs (omega arith) in
+    put-next l0 a b bs cs p (stored-first l1 b cs q (omega arith)) e room

@@ -2,14 +2,15 @@
 --     leBytes n x, leNum bs      the n bytes of x, least first; the number that bytes stand for
 --     wordBytes a                the 16 bytes of a word, low half first
 --     field n l a, wordAt l a    the number in the n bytes of l from a on; the word in the 16 bytes
+--     AreBytes l                 each element is below 256; Halves l: each is below 2 ^ 64
 --     put l a bs                 l with bs in place of what stands from a on
 --     fits, stored               whether bs has room in l from a on; what a write that is refused by Room leaves and answers
 -- Assumes nothing.
-use Prim.Native.Nat.{ℕ, zero, suc, _+_, _*_, _/_, _%_}
+use Prim.Native.Nat.{ℕ, zero, suc, _+_, _*_, _/_, _%_, _^_, _<_}
 use mathlib.Core.Bool.{Bool, cond}
 use mathlib.Core.List.{List, [], _∷_, _++_}
 use lib.Dec.{leb}
-use lib.ListN.{length, take, drop}
+use lib.ListN.{length, take, drop, getD}
 use Rattle.words.specs.declared.Word.{Word}
 use Rattle.words.specs.Refusals.{Room}
 
@@ -30,6 +31,14 @@ field n l a = leNum (take n (drop a l))
 
 unfoldable pub wordAt : List ℕ → ℕ → Word
 wordAt l a = record { lo = field 8 l a; hi = field 8 l (a + 8) }
+
+-- ---- what elements are
+
+abbrev pub AreBytes : List ℕ → Type 0
+AreBytes l = (i : ℕ) → getD l i 0 < 256
+
+abbrev pub Halves : List ℕ → Type 0
+Halves l = (i : ℕ) → getD l i 0 < 2 ^ 64
 
 -- ---- writing
 

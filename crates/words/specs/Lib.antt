@@ -1,5 +1,6 @@
 pub mod Word
 pub mod Ring
+pub mod Limits
 pub mod Height
 pub mod Bytes
 pub mod Cells

@@ -11,12 +11,13 @@ use Rattle.bucket_hash.proofs.bucket.Statement.{statement}
 use Rattle.bucket_hash.proofs.bucket.Tie as tie
 use Rattle.bucket_hash.proofs.bucket.Reads as reads
 use Rattle.bucket_hash.proofs.bucket.Lts as lts
-use Rattle.bucket_hash.specs.BucketHash.{most, bucketFor, bucketNumber}
+use Rattle.words.specs.Limits.{mostBuckets}
+use Rattle.bucket_hash.specs.BucketHash.{bucketFor, bucketNumber}
 
 -- no refusal: there are buckets
 some-buckets : (b : ℕ) → bucketNumber b ≡ 0 → 0 < b
 unfolding bucketNumber
-some-buckets b e = ltb-false _ _ (first-clear ((ltb b 1, Buckets) ∷ (ltb most b, Buckets) ∷ []) 0 tt e)
+some-buckets b e = ltb-false _ _ (first-clear ((ltb b 1, Buckets) ∷ (ltb mostBuckets b, Buckets) ∷ []) 0 tt e)
 
 returns : tie.Need-returns
 unfolding bucketFor

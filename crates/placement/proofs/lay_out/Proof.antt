@@ -1,147 +1,73 @@
--- `placement::lay_out` meets its contract: the tests refuse, the walk over zeros gives up, or the pass notes sizes and positions
--- behind what it placed. Assumes nothing.
-use mathlib.Core.Path.{_≡_, refl, sym, ap, _∙_}
+-- `placement::lay_out` meets its contract: placing is refused, or the pass notes sizes and positions in the zeros behind what
+-- was placed. Assumes nothing.
+use mathlib.Core.Path.{_≡_, _∙_}
 use mathlib.Core.List.{List, _++_}
-use Prim.Native.Nat.{ℕ, _+_, _*_, _<_, _≤_}
+use Prim.Native.Nat.{ℕ, _+_, _<_}
 use native.Mathlib.Omega.{arith}
 use borrow.Author.Needs.{needs}
-use lib.ListN.{length, take, drop}
-use lib.Seq.{length-take-le}
-use Rattle.words.specs.Bytes.{put}
-use Rattle.words.specs.Cells.{zeroed}
-use Rattle.words.proofs.CellLaws.{length-zeroed}
+use lib.ListN.{length, replicate}
 use Rattle.bucket_hash.specs.BucketHash.{bucketBy}
 use Rattle.bucket_hash.proofs.BucketsBelow.{bucketBy-lt}
-use Rattle.placement.specs.Walk.{Walk}
-use Rattle.placement.specs.Passes.{cells, walkAt}
-use Rattle.placement.specs.Calls.{placed, walkIn, placeable}
-use Rattle.placement.proofs.SliceLaws.{cells-walkAt}
+use Rattle.placement.specs.Passes.{cells}
+use Rattle.placement.specs.Calls.{placed, walkIn, placingWith}
 use Rattle.placement.proofs.PointLaws.{Placeable, placeable-clear}
-use Rattle.placement.proofs.CallLaws.{part-put, placed-refused, placed-gave-up, placed-all}
-use Rattle.placement.proofs.LayLaws.{zeroed-again, lay-fresh, laid}
+use Rattle.placement.proofs.CallLaws.{over-two, placed-otherwise, placed-clear, placed-hand, placed-scratch, placed-onward}
+use Rattle.placement.proofs.LayLaws.{lay-fresh, laid}
 use Rattle.placement.proofs.lay_out.Statement.{statement}
 use Rattle.placement.proofs.lay_out.Tie as tie
-use Rattle.placement.proofs.lay_out.Reads as reads
-use Rattle.placement.proofs.lay_out.Lts as lts
 
--- ---- what the tests say
+abbrev functions : tie.Start → ℕ → ℕ → ℕ
+functions s = bucketBy (s .args .hashes) (s .args .buckets)
 
 abbrev needed : tie.Start → ℕ
 needed s = s .args .buckets + length (s .args .points .now) + s .args .buckets + s .args .buckets
 
-number : (c : tie.After-place-number) → c .place-number .result ≡ placeable (c .before .before .before .args .domain) (c .before .before .before .args .buckets) (c .before .before .before .args .points .now) (length (c .before .before .before .args .scratch .now)) (needed (c .before .before .before))
-number c = c .place-number .ensures ∙ ap (placeable _ _ _ _) (omega arith)
-
-clear : (c : tie.Else1) → placeable (c .before .before .before .before .args .domain) (c .before .before .before .before .args .buckets) (c .before .before .before .before .args .points .now) (length (c .before .before .before .before .args .scratch .now)) (needed (c .before .before .before .before)) ≡ 0
-clear c = sym (number (c .before)) ∙ c .if1 .left
-
-facts : (c : tie.Else1) → Placeable (c .before .before .before .before .args .domain) (c .before .before .before .before .args .buckets) (c .before .before .before .before .args .points .now) (length (c .before .before .before .before .args .scratch .now)) (needed (c .before .before .before .before))
-facts c = placeable-clear _ _ _ _ _ (clear c)
-
-returns : tie.Need-returns
-returns c = placed-refused _ _ _ _ _ _ _ _ (number (c .before)) (c .if1 .taken)
-
--- ---- the walk over zeros
-
-zero : (c : tie.After-zero-first) → c .zero-first .last .0 ≡ zeroed (needed (c .before .before .before .before .before .before)) (c .before .before .before .before .before .before .args .scratch .now)
-zero c = c .zero-first .ensures
-
-zero-room : (c : tie.After-zero-first) → c .before .before .before .before .before .before .args .buckets + length (c .before .before .before .before .before .before .args .points .now) ≤ length (c .zero-first .last .0)
-zero-room c = omega (arith, facts (c .before .before) .room, ap length (zero c), length-zeroed (needed (c .before .before .before .before .before .before)) (c .before .before .before .before .before .before .args .scratch .now))
-
-slice-relend-prefix-walk : tie.Need-slice-relend-prefix-walk
-slice-relend-prefix-walk c = zero-room (c .before .before)
-
-slice-aggregate-walk : tie.Need-slice-aggregate-walk
-slice-aggregate-walk c = sym (length-take-le _ _ (zero-room (c .before .before .before)))
-
-walk-requires : tie.Need-walk-requires
-walk-requires c κs =
-    let f = facts (c .before .before .before .before .before) in
-    (f .some, f .few, omega (arith, f .few, f .within), length-take-le _ _ (zero-room (c .before .before .before)))
-
--- what it left in the part that was lent
-left : (c : tie.After-walk) → List ℕ
-left c = c .walk .last .1 .1 .1 .0
-
-shown : (c : tie.After-walk) → walkAt (c .before .before .before .before .before .before .before .before .before .before .args .buckets) (left c) (c .walk .result .point) (c .walk .result .evictions)
-    ≡ walkIn (bucketBy (c .before .before .before .before .before .before .before .before .before .before .args .hashes) (c .before .before .before .before .before .before .before .before .before .before .args .buckets)) (c .before .before .before .before .before .before .before .before .before .before .args .buckets) (c .before .before .before .before .before .before .before .before .before .before .args .points .now)
-unfolding left walkIn
-shown c = c .walk .ensures
-
-hand : (c : tie.After-walk) → c .walk .result .point
-    ≡ walkIn (bucketBy (c .before .before .before .before .before .before .before .before .before .before .args .hashes) (c .before .before .before .before .before .before .before .before .before .before .args .buckets)) (c .before .before .before .before .before .before .before .before .before .before .args .buckets) (c .before .before .before .before .before .before .before .before .before .before .args .points .now) .hand
-unfolding walkAt
-hand c = ap (λ (v : Walk). v .hand) (shown c)
-
-evictions : (c : tie.After-walk) → c .walk .result .evictions
-    ≡ walkIn (bucketBy (c .before .before .before .before .before .before .before .before .before .before .args .hashes) (c .before .before .before .before .before .before .before .before .before .before .args .buckets)) (c .before .before .before .before .before .before .before .before .before .before .args .buckets) (c .before .before .before .before .before .before .before .before .before .before .args .points .now) .evictions
-unfolding walkAt
-evictions c = ap (λ (v : Walk). v .evictions) (shown c)
-
-long : (c : tie.After-walk) → length (left c) ≡ c .before .before .before .before .before .before .before .before .before .before .args .buckets + length (c .before .before .before .before .before .before .before .before .before .before .args .points .now)
-unfolding left
-long c =
-    omega (arith, c .walk .kept, length-take-le (c .before .before .before .before .before .before .before .before .before .before .args .buckets + length (c .before .before .before .before .before .before .before .before .before .before .args .points .now)) (c .before .before .before .before .zero-first .last .0) (zero-room (c .before .before .before .before)))
-
--- the scratch is what it left over zeros
-over : (c : tie.After-walk) → left c ++ drop (c .before .before .before .before .before .before .before .before .before .before .args .buckets + length (c .before .before .before .before .before .before .before .before .before .before .args .points .now)) (c .before .before .before .before .zero-first .last .0)
-    ≡ put (zeroed (needed (c .before .before .before .before .before .before .before .before .before .before)) (c .before .before .before .before .before .before .before .before .before .before .args .scratch .now)) 0 (left c)
-over c = part-put _ (c .before .before .before .before .zero-first .last .0) (left c) (long c) ∙ ap (λ (k : List ℕ). put k 0 (left c)) (zero (c .before .before .before .before))
-
-over-cells : (c : tie.After-walk) → left c ++ drop (c .before .before .before .before .before .before .before .before .before .before .args .buckets + length (c .before .before .before .before .before .before .before .before .before .before .args .points .now)) (c .before .before .before .before .zero-first .last .0)
-    ≡ put (zeroed (needed (c .before .before .before .before .before .before .before .before .before .before)) (c .before .before .before .before .before .before .before .before .before .before .args .scratch .now)) 0
-    (cells (walkIn (bucketBy (c .before .before .before .before .before .before .before .before .before .before .args .hashes) (c .before .before .before .before .before .before .before .before .before .before .args .buckets)) (c .before .before .before .before .before .before .before .before .before .before .args .buckets) (c .before .before .before .before .before .before .before .before .before .before .args .points .now)))
-over-cells c = over c ∙ ap (put _ 0) (cells-walkAt _ _ _ _ _ (shown c))
-
--- ---- the three ways out
-
-returns-2 : tie.Need-returns-2
-unfolding left
-returns-2 c =
-    let w = c .before .before .before .before .before .before .before .before in
-    let n : ℕ = needed (c .before .before .before .before .before .before .before .before .before .before .before .before .before .before .before .before .before .before) in
-    let f = facts (c .before .before .before .before .before .before .before .before .before .before .before .before .before .before) in
-    ap (placed _) (c .before .before .zero-first2 .ensures ∙ ap (zeroed n) (over w) ∙ zeroed-again n (c .before .before .before .before .before .before .before .before .before .before .before .before .before .before .before .before .before .before .args .scratch .now) (left w) (f .room) (omega (arith, long w)))
-    ∙ placed-gave-up _ _ _ _ _ _ _ (clear (c .before .before .before .before .before .before .before .before .before .before .before .before .before .before)) (λ z. c .before .before .before .before .if2 .taken (hand w ∙ z))
-
-low : (s : tie.Start) → 0 < s .args .buckets → (k x : ℕ) → k < 3 → bucketBy (s .args .hashes) (s .args .buckets) k x < s .args .buckets
+low : (s : tie.Start) → 0 < s .args .buckets → (k x : ℕ) → k < 3 → functions s k x < s .args .buckets
 low s some k x l = bucketBy-lt _ _ k x some
 
-sizes-and-positions-requires : tie.Need-sizes-and-positions-requires
-unfolding left
-sizes-and-positions-requires c κs =
-    let s = c .before .before .before .before .before .before .before .before .before .before .before .before .before .before .before in
-    let w = c .before .before .before .before .before in
-    let f = facts (c .before .before .before .before .before .before .before .before .before .before .before) in
-    (f .some, omega (arith, f .domain), lay-fresh _ _ (low s (f .some)) _ (sym (hand w) ∙ c .before .if2 .left) _ _ f _ (over-cells w))
+-- the scratch as placing left it
+abbrev after : tie.After-place-over → List ℕ
+after c = c .place-over .last .1 .1 .1 .1 .1 .0
 
-returns-3 : tie.Need-returns-3
-unfolding left
-returns-3 c =
-    let s = c .before .before .before .before .before .before .before .before .before .before .before .before .before .before .before .before .before .before in
-    let w = c .before .before .before .before .before .before .before .before in
-    let f = facts (c .before .before .before .before .before .before .before .before .before .before .before .before .before .before) in
-    let none = sym (hand w) ∙ c .before .before .before .before .if2 .left in
-    placed-all _ _ _ _ _ _ _ (clear (c .before .before .before .before .before .before .before .before .before .before .before .before .before .before)) _ _ none (evictions w)
-    (laid _ _ (low s (f .some)) _ none _ _ f _ _ (over-cells w) (c .before .before .sizes-and-positions .ensures))
+answer : (c : tie.After-place-over) → placed (c .place-over .result) (after c)
+    ≡ placingWith (functions (c .before .before .before .before)) (c .before .before .before .before .args .domain) (c .before .before .before .before .args .buckets) (c .before .before .before .before .args .points .now) (needed (c .before .before .before .before))
+    (cells (walkIn (functions (c .before .before .before .before)) (c .before .before .before .before .args .buckets) (c .before .before .before .before .args .points .now)) ++ replicate (c .before .before .before .before .args .buckets + c .before .before .before .before .args .buckets) 0)
+    (c .before .before .before .before .args .scratch .now)
+answer c = c .place-over .ensures ∙ over-two _ _ _ _ _ _ (omega arith)
+
+facts : (c : tie.Else1) → Placeable (c .before .before .before .before .before .before .before .before .args .domain) (c .before .before .before .before .before .before .before .before .args .buckets) (c .before .before .before .before .before .before .before .before .args .points .now) (length (c .before .before .before .before .before .before .before .before .args .scratch .now)) (needed (c .before .before .before .before .before .before .before .before))
+facts c = placeable-clear _ _ _ _ _ (placed-clear _ _ _ _ _ _ _ _ _ (answer (c .before .before .before .before)) (c .if1 .left))
+
+returns : tie.Need-returns
+returns c = placed-otherwise _ _ _ _ _ _ _ _ _ (answer (c .before .before .before .before)) _ (c .if1 .taken)
+
+sizes-and-positions-requires : tie.Need-sizes-and-positions-requires
+sizes-and-positions-requires c κs =
+    let f = facts (c .before) in
+    let e = answer (c .before .before .before .before .before) in
+    let none = c .before .if1 .left in (
+      f .some,
+      omega (arith, f .domain),
+      lay-fresh _ _ (low (c .before .before .before .before .before .before .before .before .before) (f .some)) _ (placed-hand _ _ _ _ _ _ _ _ _ e none) _ _ f _ (placed-scratch _ _ _ _ _ _ _ _ _ e none),
+    )
+
+returns-2 : tie.Need-returns-2
+returns-2 c =
+    let f = facts (c .before .before .before .before) in
+    let e = answer (c .before .before .before .before .before .before .before .before) in
+    let none = c .before .before .before .before .if1 .left in
+    let hand = placed-hand _ _ _ _ _ _ _ _ _ e none in
+    placed-onward _ _ _ _ _ _ _ _ _ e none _ _
+    (laid _ _ (low (c .before .before .before .before .before .before .before .before .before .before .before .before) (f .some)) _ hand _ _ f _ _ (placed-scratch _ _ _ _ _ _ _ _ _ e none) (c .before .before .sizes-and-positions .ensures))
 
 pub lay-out-spec : {M : Type 1} → statement M
 lay-out-spec =
     tie.close
     (tie.spec
     (λ c κs. search needs)
+    (λ c. search needs)
     returns
     (λ c. omega (arith, facts c .few, facts c .within))
-    (λ c. omega (arith, facts c .few, facts c .within))
-    (λ c. omega (arith, facts c .few, facts c .within))
-    (λ c κs. search needs)
-    slice-relend-prefix-walk
-    slice-aggregate-walk
-    walk-requires
-    (λ c κs. search needs)
-    (λ c. search needs)
-    returns-2
     sizes-and-positions-requires
     (λ c. search needs)
-    returns-3)
+    returns-2)

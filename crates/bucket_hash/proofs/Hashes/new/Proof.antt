@@ -12,18 +12,19 @@ use Rattle.cipher.specs.Fips197.{keyExpansion}
 use Rattle.bucket_hash.specs.declared.Hashes.{Hashes}
 use Rattle.bucket_hash.specs.BucketHash.{hashesOf, hashKey}
 
--- three ciphers are known by their keys
-three : {x y z : Aes} {a b c : List ℕ} → x .keys ≡ a → y .keys ≡ b → z .keys ≡ c
-    → _≡_ {A = Hashes} (record { first = x; second = y; third = z }) (record { first = record { keys = a }; second = record { keys = b }; third = record { keys = c } })
-three p q r = λ i. record { first = record { keys = p i }; second = record { keys = q i }; third = record { keys = r i } }
+abbrev under : List ℕ → Aes
+under key = record { keys = keyExpansion key }
+
+three : {x y z a b c : Aes} → x ≡ a → y ≡ b → z ≡ c → _≡_ {A = Hashes} (record { first = x; second = y; third = z }) (record { first = a; second = b; third = c })
+three p q r = λ i. record { first = p i; second = q i; third = r i }
 
 returns : tie.Need-returns
 unfolding hashesOf hashKey
 returns c =
     three
-    (c .before .before .before .before .before .before .new .ensures ∙ ap keyExpansion (c .before .before .before .before .before .before .before .key-at .ensures))
-    (c .before .before .before .new2 .ensures ∙ ap keyExpansion (c .before .before .before .before .key-at2 .ensures))
-    (c .new3 .ensures ∙ ap keyExpansion (c .before .key-at3 .ensures))
+    (c .before .before .before .before .before .before .new .ensures ∙ ap under (c .before .before .before .before .before .before .before .key-at .ensures))
+    (c .before .before .before .new2 .ensures ∙ ap under (c .before .before .before .before .key-at2 .ensures))
+    (c .new3 .ensures ∙ ap under (c .before .key-at3 .ensures))
 
 pub new-spec : {M : Type 1} → statement M
 new-spec = tie.close (tie.spec (λ c κs. search needs) (λ c κs. search needs) (λ c κs. search needs) (λ c κs. search needs) (λ c κs. search needs) (λ c κs. search needs) returns)

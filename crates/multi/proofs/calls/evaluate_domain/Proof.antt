@@ -1,84 +1,70 @@
--- `multi::calls::evaluate_domain` meets its contract: what is refused early changes nothing; a mismatch leaves zeros in scratch alone; else
--- what is gathered of each cell is its share. Assumes nothing.
-use mathlib.Core.Path.{_≡_, sym, ap, _∙_}
+-- `multi::calls::evaluate_domain` meets its contract: what is refused early changes nothing; else what the cells become is known, and scratch is
+-- zeroed, whether the sizes match or not. Assumes nothing.
+use mathlib.Core.Path.{_≡_, sym, _∙_}
+use mathlib.Core.Bool.{Bool}
 use mathlib.Core.List.{List}
-use Prim.Native.Nat.{ℕ, _<_}
-use native.Mathlib.Omega.{arith}
+use Prim.Native.Nat.{ℕ, _≤_}
 use borrow.Author.Needs.{needs}
 use denote.Ref.{now}
 use lib.ListN.{length}
 use Rattle.words.specs.Bytes.{put}
-use Rattle.words.specs.Cells.{tab, added}
-use Rattle.words.proofs.CellLaws.{tab-ext}
+use Rattle.words.specs.Cells.{tab}
+use Rattle.words.specs.Refusals.{first}
 use Rattle.cipher.specs.TreeHash.{treeHash}
-use Rattle.bucket_hash.specs.BucketHash.{bucketOf, bucketBy}
-use Rattle.bucket_hash.proofs.BucketsBelow.{bucketBy-lt}
-use Rattle.multi.specs.Image.{bucketsIn, domainIn}
-use Rattle.multi.specs.Calls.{domainRoom, shareIn, evaluateDomainEarly, evaluateDomainNumber, evaluating, evaluateDomain}
-use Rattle.multi.proofs.ImageLaws.{passing}
+use Rattle.bucket_hash.specs.BucketHash.{bucketOf}
+use Rattle.multi.specs.Image.{domainIn}
+use Rattle.multi.specs.Calls.{shareIn, evaluateDomainEarly, evaluateDomainNumber, evaluating, evaluateDomain}
+use Rattle.multi.specs.Reading.{shareBy, cellsPut}
 use Rattle.multi.proofs.ReadLaws.{functions-in}
-use Rattle.multi.proofs.DomainReads.{domain-clear, domain-gather, answer-in, match-in, room-left, zeros-mismatch, zeros-done, sums-are, sweep-refused, sweep-mismatch, sweep-done}
+use Rattle.multi.proofs.DomainReads.{DomainClear, domain-clear, sweep-refused, sweep-passed}
 use Rattle.multi.proofs.calls.evaluate_domain.Statement.{statement}
 use Rattle.multi.proofs.calls.evaluate_domain.Tie as tie
 
+abbrev rows : tie.Start → List (Bool × ℕ)
+rows s = evaluateDomainEarly (now (s .args .key)) (length (now (s .args .scratch))) (length (now (s .args .out)))
+
+-- the cells on success, by bucket functions h
+abbrev cells : tie.Start → (ℕ → ℕ → ℕ) → List ℕ
+cells s h = put (now (s .args .out)) 0 (tab (shareBy treeHash h (now (s .args .key))) (domainIn (now (s .args .key))))
+
+-- ---- refused early
+
 returns : tie.Need-returns
-unfolding evaluateDomain evaluateDomainNumber
+unfolding evaluateDomain evaluateDomainNumber shareIn
 returns c =
-    let a = c .before .before .before .before .before .args in
-    let l = now (a .key) in
-    sweep-refused evaluating bucketOf l (evaluateDomainEarly l (length (now (a .scratch))) (length (now (a .out)))) (domainRoom l) (now (a .scratch)) (put (now (a .out)) 0 (tab (shareIn treeHash bucketOf l) (domainIn l))) (now (a .out)) _ tt (c .before .evaluate-domain-number .ensures) (c .if1 .taken)
+    let s = c .before .before .before .before .before in
+    sweep-refused evaluating bucketOf (now (s .args .key)) (rows s) _ (cells s) _ _ tt (c .before .evaluate-domain-number .ensures) (c .if1 .taken)
 
-domain-room-requires : tie.Need-domain-room-requires
-domain-room-requires c κs =
-    let a = c .before .before .before .before .before .args in
-    domain-clear (now (a .key)) (length (now (a .scratch))) (length (now (a .out))) (sym (c .before .evaluate-domain-number .ensures) ∙ c .if1 .left) .0 .ok
+-- ---- not refused early
 
-hash-keys-requires : tie.Need-hash-keys-requires
-hash-keys-requires c κs =
-    let a = c .before .before .before .before .before .before .args in
-    domain-clear (now (a .key)) (length (now (a .scratch))) (length (now (a .out))) (sym (c .before .before .evaluate-domain-number .ensures) ∙ c .before .if1 .left) .0 .header
+abbrev start : tie.Else1 → tie.Start
+start c = c .before .before .before .before .before
 
-lay-shares-requires : tie.Need-lay-shares-requires
-lay-shares-requires c κs =
-    let a = c .before .before .before .before .before .before .before .before .before .args in
-    let q = domain-clear (now (a .key)) (length (now (a .scratch))) (length (now (a .out))) (sym (c .before .before .before .before .before .evaluate-domain-number .ensures) ∙ c .before .before .before .before .if1 .left) in
-    (q .0 .ok, q .0 .room)
+passed : (c : tie.Else1) → first (rows (start c)) ≡ 0
+passed c = sym (c .before .evaluate-domain-number .ensures) ∙ c .if1 .left
 
+clear : (c : tie.Else1)
+    → DomainClear (now (start c .args .key)) (length (now (start c .args .scratch)))
+    × (domainIn (now (start c .args .key)) ≤ length (now (start c .args .out)))
+clear c = domain-clear _ _ _ (passed c)
+
+put-cells-requires : tie.Need-put-cells-requires
+put-cells-requires c κs =
+    let q = clear (c .before .before .before .before .before) in
+    (q .0 .ok, q .0 .room, q .1)
+
+-- the places are after the cells, after the bucket functions and after the need of scratch
 returns-2 : tie.Need-returns-2
-unfolding evaluateDomain evaluateDomainNumber
+unfolding evaluateDomain evaluateDomainNumber shareIn cellsPut
 returns-2 c =
-    let a = c .before .before .before .before .before .before .before .before .before .before .before .before .before .before .before .before .before .args in
-    let l = now (a .key) in
-    let s = now (a .scratch) in
-    let early = sym (c .before .before .before .before .before .before .before .before .before .before .before .before .before .evaluate-domain-number .ensures) ∙ c .before .before .before .before .before .before .before .before .before .before .before .before .if1 .left in
-    let q = domain-clear l (length (now (a .scratch))) (length (now (a .out))) early in
-    let functions = functions-in l _ _ (c .before .before .before .before .before .before .before .before .before .new .ensures) (c .before .before .before .before .before .before .before .before .before .before .hash-keys .ensures) in
-    let laid = c .before .before .before .before .before .before .before .lay-shares .ensures in
-    let need = c .before .before .before .before .before .before .before .before .before .before .before .domain-room .ensures in
-    sweep-mismatch evaluating bucketOf l (evaluateDomainEarly l (length (now (a .scratch))) (length (now (a .out)))) (domainRoom l) s (put (now (a .out)) 0 (tab (shareIn treeHash bucketOf l) (domainIn l))) (now (a .out)) _ _ tt early
-    (answer-in treeHash bucketOf _ l s functions (q .0 .room) _ (laid .0) _ (laid .1)) (c .before .before .before .before .if2 .taken)
-    (zeros-mismatch treeHash bucketOf _ l s functions (q .0 .room) _ (laid .0) _ (laid .1) _ _ (c .before .before .before .before .if2 .taken) need (c .before .before .zero-first .ensures))
-
-returns-3 : tie.Need-returns-3
-unfolding evaluateDomain evaluateDomainNumber
-returns-3 c =
-    let a = c .before .before .before .before .before .before .before .before .before .before .before .before .before .before .before .before .before .before .before .before .before .before .before .before .before .before .args in
-    let l = now (a .key) in
-    let s = now (a .scratch) in
-    let early = sym (c .before .before .before .before .before .before .before .before .before .before .before .before .before .before .before .before .before .before .before .before .before .before .evaluate-domain-number .ensures) ∙ c .before .before .before .before .before .before .before .before .before .before .before .before .before .before .before .before .before .before .before .before .before .if1 .left in
-    let q = domain-clear l (length (now (a .scratch))) (length (now (a .out))) early in
-    let functions = functions-in l _ _ (c .before .before .before .before .before .before .before .before .before .before .before .before .before .before .before .before .before .before .new .ensures) (c .before .before .before .before .before .before .before .before .before .before .before .before .before .before .before .before .before .before .before .hash-keys .ensures) in
-    let laid = c .before .before .before .before .before .before .before .before .before .before .before .before .before .before .before .before .lay-shares .ensures in
-    let need = c .before .before .before .before .before .before .before .before .before .before .before .before .before .before .before .before .before .before .before .before .domain-room .ensures in
-    let none = c .before .before .before .before .before .before .before .before .before .before .before .before .before .if2 .left in
-    let low : (k x : ℕ) → k < 3 → x < domainIn l → bucketBy (c .before .before .before .before .before .before .before .before .before .before .before .before .before .before .before .before .before .before .new .result) (bucketsIn l) k x < bucketsIn l =
-    λ k x few inside. bucketBy-lt (c .before .before .before .before .before .before .before .before .before .before .before .before .before .before .before .before .before .before .new .result) (bucketsIn l) k x (passing l (q .0 .ok) .someBuckets) in
-    let summed = domain-gather (bucketBy (c .before .before .before .before .before .before .before .before .before .before .before .before .before .before .before .before .before .before .new .result)) l (q .0 .ok) _ _ _ (c .before .before .before .before .before .before .before .before .before .before .before .before .domain .ensures) (c .before .before .before .before .before .before .before .before .before .before .before .buckets .ensures) _ _
-    (room-left treeHash bucketOf _ l s functions (q .0 .room) _ (laid .0) _ (laid .1) (q .0 .ok) low none) (now (a .out)) _ (q .1) (c .before .before .before .before .before .before .before .before .gather .ensures) in
-    sweep-done evaluating bucketOf l (evaluateDomainEarly l (length (now (a .scratch))) (length (now (a .out)))) (domainRoom l) s (put (now (a .out)) 0 (tab (shareIn treeHash bucketOf l) (domainIn l))) (now (a .out)) _ _ tt early
-    (match-in treeHash bucketOf _ l s functions (q .0 .room) _ (laid .0) _ (laid .1) (q .0 .ok) low none)
-    (zeros-done treeHash bucketOf _ l s functions (q .0 .room) _ (laid .0) _ (laid .1) (q .0 .ok) low none _ _ _ need (summed .0) (c .before .before .zero-first2 .ensures))
-    (summed .1 ∙ ap (put (now (a .out)) 0) (tab-ext _ _ (domainIn l) (sums-are treeHash bucketOf _ l s functions (q .0 .room) _ (laid .0) _ (laid .1) (q .0 .ok) low none)))
+    let read = c .before .before .before .before .before .before .before .before in
+    let made = read .before .before .before in
+    let needed = made .before .before in
+    let s = start (needed .before) in
+    let l = now (s .args .key) in
+    let functions = functions-in l _ _ (made .new .ensures) (made .before .hash-keys .ensures) in
+    sweep-passed evaluating bucketOf l (rows s) _ (cells s) _ tt (passed (needed .before)) _ functions _ _ _ _ _
+    (read .put-cells .ensures) (needed .domain-room .ensures) (c .before .before .zero-first .ensures)
 
 pub evaluate-domain-spec : {M : Type 1} → statement M
 evaluate-domain-spec =
@@ -86,17 +72,11 @@ evaluate-domain-spec =
     (tie.spec
     (λ c κs. search needs)
     returns
-    domain-room-requires
-    hash-keys-requires
+    (λ c κs. clear c .0 .ok)
+    (λ c κs. clear (c .before) .0 .header)
     (λ c κs. search needs)
-    lay-shares-requires
-    (λ c κs. search needs)
-    (λ c. search needs)
-    returns-2
-    (λ c κs. search needs)
-    (λ c κs. search needs)
-    (λ c κs. search needs)
+    put-cells-requires
     (λ c κs. search needs)
     (λ c. search needs)
     (λ c. search needs)
-    returns-3)
+    returns-2)

@@ -6,7 +6,7 @@ use native.Mathlib.Omega.{arith}
 use borrow.Author.Needs.{needs}
 use denote.Ref.{now}
 use lib.ListN.{length}
-use Rattle.words.specs.Height as height
+use Rattle.words.specs.Limits.{largestSingle}
 use Rattle.single.specs.Record as single
 use Rattle.multi.specs.Image.{entryIn}
 use Rattle.multi.proofs.ImageLaws.{standing, next-none, next-elsewhere, next-bad, next-good}
@@ -15,8 +15,8 @@ use Rattle.multi.proofs.image.next_start.Tie as tie
 
 -- what was asked of the part at `at`
 asked : (c : tie.After-record-ok) → let s = c .before .before .before .before .before .before in
-    single.recordOk height.largest (single.recordPart (now (s .args .key)) (s .args .at)) ≡ c .record-ok .result
-asked c = sym (c .record-ok .ensures ∙ ap (single.recordOk height.largest) (c .before .part-at .ensures))
+    single.recordOk largestSingle (single.recordPart (now (s .args .key)) (s .args .at)) ≡ c .record-ok .result
+asked c = sym (c .record-ok .ensures ∙ ap (single.recordOk largestSingle) (c .before .part-at .ensures))
 
 -- the entry is there, and is `at`
 some : (c : tie.Else2) → let s = c .before .before .before .before in entryIn (now (s .args .key)) (s .args .c) ≡ 0 → ⊥
@@ -39,7 +39,7 @@ returns-2 c =
 add-result : tie.Need-add-result
 add-result c =
     let s = c .before .before .before .before .before .before .before in
-    let there = standing height.largest (now (s .args .key)) (s .args .at) (asked (c .before) ∙ c .if3 .taken) in
+    let there = standing largestSingle (now (s .args .key)) (s .args .at) (asked (c .before) ∙ c .if3 .taken) in
     let long = ap length (c .before .before .part-at .ensures) in
     omega (arith, there .inside, there .long, long, s)
 

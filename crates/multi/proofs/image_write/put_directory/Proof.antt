@@ -8,11 +8,11 @@ use borrow.Author.Needs.{needs}
 use denote.Ref.{now}
 use lib.ListN.{length}
 use Rattle.words.specs.Bytes.{leBytes, put, stored}
-use Rattle.words.proofs.ByteLaws.{put-nil, length-put, length-leBytes}
+use Rattle.words.proofs.ByteLaws.{put-nil, length-put, length-leBytes, stored-next}
 use Rattle.multi.specs.Image.{startOf, entryFor, directoryBytes, lengthsBy}
 use Rattle.multi.proofs.ImageLaws.{start-first, start-next, start-le, start-least}
 use Rattle.multi.proofs.MultiReadsBack.{length-directory}
-use Rattle.multi.proofs.ImageWriteLaws.{stored-next, entry-of, directory-next}
+use Rattle.multi.proofs.ImageWriteLaws.{entry-of, directory-next}
 use Rattle.multi.proofs.image_write.put_directory.Statement.{statement}
 use Rattle.multi.proofs.image_write.put_directory.Tie as tie
 

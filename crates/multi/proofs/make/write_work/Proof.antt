@@ -8,9 +8,8 @@ use borrow.Author.Needs.{needs}
 use denote.Ref.{now}
 use lib.ListN.{length, take, drop, getD, length-take}
 use lib.Seq.{length-take-le}
-use Rattle.words.specs.Height as height
+use Rattle.words.specs.Limits.{largestSingle, mostBuckets}
 use Rattle.cipher.specs.TreeHash.{treeHash}
-use Rattle.placement.specs.Calls.{most}
 use Rattle.multi.specs.Making.{Writing, writeLaid}
 use Rattle.multi.proofs.make.write_work.Statement.{statement}
 use Rattle.multi.proofs.make.write_work.Tie as tie
@@ -20,7 +19,7 @@ write-laid-requires c κs =
     let s = c .before .before .before .before .before .before .before .before .before .before in
     let a = s .args in
     let cut = ap (λ (k : ℕ). take k (drop (a .b + a .n) (now (a .work)))) (add-sub-cancel-left (a .b + a .n) (a .b)) in
-    subst (λ (l : List ℕ). (length l ≤ most) × ((i : ℕ) → getD l i 0 ≤ height.largest)) (sym cut)
+    subst (λ (l : List ℕ). (length l ≤ mostBuckets) × ((i : ℕ) → getD l i 0 ≤ largestSingle)) (sym cut)
     (omega (arith, length-take (a .b) (drop (a .b + a .n) (now (a .work))), s .pre .0 .0), s .pre .1)
 
 returns : tie.Need-returns

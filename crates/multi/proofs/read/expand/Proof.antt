@@ -1,16 +1,16 @@
 -- `multi::read::expand` meets its contract. The invariant is `Spreading`: the parts of the buckets before c are in their places. The
 -- measure is how many buckets are left. Assumes nothing.
-use mathlib.Core.Path.{_≡_, refl, sym, ap, _∙_}
-use mathlib.Core.Bool.{Bool}
+use mathlib.Core.Path.{_≡_, ap, _∙_}
 use mathlib.Core.List.{List}
-use Prim.Native.Nat.{ℕ, _+_, _*_, _-_, _<_}
+use Prim.Native.Nat.{ℕ, _+_, _*_, _-_, _≤_, _<_}
 use native.Mathlib.Omega.{arith}
 use borrow.Author.Needs.{needs}
 use denote.Ref.{now}
 use lib.Dec.{eqb}
-use lib.ListN.{length}
+use lib.ListN.{length, getD}
+use Rattle.words.specs.Cells.{sumTo}
 use Rattle.cipher.specs.TreeHash.{hashBy}
-use Rattle.multi.specs.Image.{bucketsIn}
+use Rattle.multi.specs.Image.{bucketsIn, sizeIn}
 use Rattle.multi.specs.Reading.{spreadOut}
 use Rattle.multi.proofs.ReadLaws.{Spreading, spreading-none, spreading-start, spreading-room, spreading-next, spreading-all}
 use Rattle.multi.proofs.read.expand.Statement.{statement}
@@ -25,40 +25,61 @@ abbrev μ-loop : tie.MeasureT-loop
 loop-holds : tie.Need-loop-holds Inv-loop μ-loop
 loop-holds c = spreading-none _ _ _ _
 
+-- ---- in the loop, where bucket c is expanded
+
+abbrev Inside : Type 0
+Inside = tie.In-loop Inv-loop μ-loop
+
+abbrev start : Inside → tie.Start Inv-loop μ-loop
+start p = p .before .before .before .before .before .before
+
+abbrev image : Inside → List ℕ
+image p = now (start p .args .key)
+
+abbrev bucket : Inside → ℕ
+bucket p = p .before .loop .c
+
+buckets : (p : Inside) → p .before .before .before .buckets .result ≡ bucketsIn (image p)
+buckets p = p .before .before .before .buckets .ensures
+
+below : (p : Inside) → bucket p < bucketsIn (image p)
+below p = omega (arith, p .loop-test .taken, buckets p)
+
+starts : (p : Inside) → getD (p .before .loop .work) (bucket p) 0 ≡ sumTo (bucket p) (sizeIn (image p))
+starts p = spreading-start _ _ _ _ (start p .pre .1) (bucket p) (below p) _ (p .before .loop .inv)
+
+room : (p : Inside) → bucketsIn (image p) + bucketsIn (image p) + 2 * sumTo (bucket p) (sizeIn (image p)) + 2 * sizeIn (image p) (bucket p)
+    ≤ length (now (start p .args .work))
+room p = spreading-room (hashBy (start p .args .h)) (eqb (p .before .before .party .result) 1) _ _ (start p .pre .1) (bucket p) (below p)
+
+long : (p : Inside) → length (p .before .loop .work) ≡ length (now (start p .args .work))
+long p = p .before .loop .inv .long
+
 slice-read-start : tie.Need-slice-read-start Inv-loop μ-loop
-slice-read-start c =
-    let l = c .before .before .loop in
-    let s = c .before .before .before .before .before .before .before in
-    omega (arith, l .inv .long, s .pre .1 .room, c .before .loop-test .taken, c .before .before .before .before .buckets .ensures)
+slice-read-start c = omega (arith, long (c .before), room (c .before), below (c .before))
 
 mul-expand-one : tie.Need-mul-expand-one Inv-loop μ-loop
 mul-expand-one c =
-    let l = c .before .before .loop in
-    let s = c .before .before .before .before .before .before .before in
-    let below : l .c < bucketsIn (now (s .args .key)) = omega (arith, c .before .loop-test .taken, c .before .before .before .before .buckets .ensures) in
-    omega (arith, spreading-start _ _ _ _ (s .pre .1) (l .c) below _ (l .inv), spreading-room (hashBy (s .args .h)) (eqb (c .before .before .before .party .result) 1) _ _ (s .pre .1) (l .c) below, l .inv .long, s)
+    let p = c .before in
+    omega (arith, starts p, room p, long p, start p)
 
 add-expand-one-2 : tie.Need-add-expand-one-2 Inv-loop μ-loop
 add-expand-one-2 c =
-    let l = c .before .before .loop in
-    let s = c .before .before .before .before .before .before .before in
-    let below : l .c < bucketsIn (now (s .args .key)) = omega (arith, c .before .loop-test .taken, c .before .before .before .before .buckets .ensures) in
-    omega (arith, spreading-start _ _ _ _ (s .pre .1) (l .c) below _ (l .inv), spreading-room (hashBy (s .args .h)) (eqb (c .before .before .before .party .result) 1) _ _ (s .pre .1) (l .c) below, l .inv .long, c .before .before .before .before .buckets .ensures, s)
+    let p = c .before in
+    omega (arith, starts p, room p, long p, buckets p, start p)
 
 expand-one-requires : tie.Need-expand-one-requires Inv-loop μ-loop
 expand-one-requires c κs =
-    let l = c .before .before .before .loop in
-    let s = c .before .before .before .before .before .before .before .before in
-    let below : l .c < bucketsIn (now (s .args .key)) = omega (arith, c .before .before .loop-test .taken, c .before .before .before .before .before .buckets .ensures) in
-    (s .pre .0, below, omega (arith, spreading-start _ _ _ _ (s .pre .1) (l .c) below _ (l .inv), spreading-room (hashBy (s .args .h)) (eqb (c .before .before .before .before .party .result) 1) _ _ (s .pre .1) (l .c) below, l .inv .long, c .before .before .before .before .before .buckets .ensures))
+    let p = c .before .before in
+    (start p .pre .0, below p, omega (arith, starts p, room p, long p, buckets p))
 
 loop-again : tie.Need-loop-again Inv-loop μ-loop
 loop-again c =
-    let l = c .before .before .before .before .before .before .loop in
-    let s = c .before .before .before .before .before .before .before .before .before .before .before in
-    let buckets = c .before .before .before .before .before .before .before .before .buckets .ensures in
-    let below : l .c < bucketsIn (now (s .args .key)) = omega (arith, c .before .before .before .before .before .loop-test .taken, buckets) in
-    spreading-next _ _ _ _ (s .pre .1) (l .c) below _ _ _ (l .inv) (omega (arith, buckets, spreading-start _ _ _ _ (s .pre .1) (l .c) below _ (l .inv))) (c .before .before .expand-one .ensures)
+    let p = c .before .before .before .before .before in
+    spreading-next _ _ _ _ (start p .pre .1) (bucket p) (below p) _ _ _ (p .before .loop .inv) (omega (arith, buckets p, starts p))
+    (c .before .before .expand-one .ensures)
+
+-- ---- after it
 
 same-length : tie.Need-same-length Inv-loop μ-loop
 same-length c = c .before .loop .inv .long
@@ -66,10 +87,10 @@ same-length c = c .before .loop .inv .long
 returns : tie.Need-returns Inv-loop μ-loop
 returns c =
     let l = c .before .loop in
-    let s = c .before .before .before .before .before .before in
-    let a = s .args in
+    let a = c .before .before .before .before .before .before .args in
+    let key = now (a .key) in
     spreading-all _ _ _ _ (l .c) _ (l .inv) (omega (arith, c .loop-test .left, c .before .before .before .buckets .ensures))
-    ∙ ap (λ (p : ℕ). spreadOut (hashBy (a .h)) (eqb p 1) (now (a .key)) (bucketsIn (now (a .key))) (now (a .work))) (c .before .before .party .ensures)
+    ∙ ap (λ (p : ℕ). spreadOut (hashBy (a .h)) (eqb p 1) key (bucketsIn key) (now (a .work))) (c .before .before .party .ensures)
 
 pub expand-spec : {M : Type 1} → statement M
 expand-spec =

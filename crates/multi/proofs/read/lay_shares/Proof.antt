@@ -1,55 +1,88 @@
 -- `multi::read::lay_shares` meets its contract: starts and sizes are counted; where the sizes are the image's, every record is
 -- expanded behind them. Assumes nothing.
 use mathlib.Core.Path.{_≡_, sym, _∙_}
+use mathlib.Core.Bool.{true}
+use mathlib.Core.List.{List}
+use Prim.Native.Nat.{ℕ}
 use native.Mathlib.Omega.{arith}
 use borrow.Author.Needs.{needs}
 use borrow.Author.Tests.{not-true, not-false}
 use denote.Ref.{now}
 use Rattle.cipher.specs.TreeHash.{treeHash}
 use Rattle.bucket_hash.specs.BucketHash.{bucketBy}
-use Rattle.bucket_hash.proofs.BucketsBelow.{bucketBy-lt}
 use Rattle.multi.specs.Image.{bucketsIn}
+use Rattle.multi.specs.Reading.{matchesBy, counted}
 use Rattle.multi.proofs.ImageLaws.{passing}
 use Rattle.multi.proofs.ReadLaws.{ready-of}
 use Rattle.multi.proofs.CellReads.{compared}
-use Rattle.multi.proofs.DomainReads.{domain-starts, counted-part, counted-long, laid-mismatch, laid-by, found-one, found-none}
+use Rattle.multi.proofs.DomainReads.{buckets-below, domain-starts, counted-part, counted-long, laid-none, laid-by, found-one, found-none}
 use Rattle.multi.proofs.read.lay_shares.Statement.{statement}
 use Rattle.multi.proofs.read.lay_shares.Tie as tie
 
+-- ---- after `starts`
+
+abbrev start : tie.After-starts → tie.Start
+start c = c .before .before .before .before .before .before
+
+abbrev image : tie.After-starts → List ℕ
+image c = now (start c .args .key)
+
+abbrev functions : tie.After-starts → ℕ → ℕ → ℕ
+functions c = bucketBy (start c .args .hashes) (bucketsIn (image c))
+
+buckets : (c : tie.After-starts) → c .before .before .before .buckets .result ≡ bucketsIn (image c)
+buckets c = c .before .before .before .buckets .ensures
+
+-- what it leaves in scratch
+abbrev left : tie.After-starts → List ℕ
+left c = c .starts .last .1 .1 .1 .0
+
+counts : (c : tie.After-starts) → left c ≡ counted (functions c) (image c) (now (start c .args .scratch))
+counts c =
+    let s = start c in
+    let domain = c .before .before .domain .ensures in
+    domain-starts (bucketBy (s .args .hashes)) (image c) (s .pre .0) _ _ _ _ _ domain (buckets c) (s .pre .1) (c .starts .ensures)
+
 same-sizes-requires : tie.Need-same-sizes-requires
 same-sizes-requires c κs =
-    let s = c .before .before .before .before .before .before .before .before .before .before in
-    let a = s .args in
-    let buckets = c .before .before .before .before .before .before .before .buckets .ensures in
-    let counts = domain-starts (bucketBy (a .hashes)) (now (a .key)) (s .pre .0) _ _ _ (now (a .scratch)) _ (c .before .before .before .before .before .before .domain .ensures) buckets (s .pre .1) (c .before .before .before .before .starts .ensures) in
-    omega (arith, counted-long _ (now (a .key)) _ _ _ buckets counts, buckets, passing _ (s .pre .0) .fewBuckets)
+    let began = c .before .before .before .before in
+    omega (arith, counted-long _ (image began) _ _ _ (buckets began) (counts began), buckets began, passing _ (start began .pre .0) .fewBuckets)
+
+-- ---- after `same_sizes`
+
+abbrev counting : tie.After-same-sizes → tie.After-starts
+counting c = c .before .before .before .before .before
+
+compares : (c : tie.After-same-sizes) → c .same-sizes .result ≡ matchesBy (functions (counting c)) (image (counting c))
+compares c =
+    let began = counting c in
+    c .same-sizes .ensures ∙ compared _ (image began) _ (counted-part _ (image began) _ _ _ (buckets began) (counts began))
 
 returns : tie.Need-returns
 returns c =
-    let s = c .before .before .before .before .before .before .before .before .before .before .before .before in
-    let a = s .args in
-    let buckets = c .before .before .before .before .before .before .before .before .before .buckets .ensures in
-    let counts = domain-starts (bucketBy (a .hashes)) (now (a .key)) (s .pre .0) _ _ _ (now (a .scratch)) _ (c .before .before .before .before .before .before .before .before .domain .ensures) buckets (s .pre .1) (c .before .before .before .before .before .before .starts .ensures) in
-    let other = sym (c .before .same-sizes .ensures ∙ compared _ (now (a .key)) _ (counted-part _ (now (a .key)) _ _ _ buckets counts)) ∙ not-true _ (c .if1 .taken) in
-    (found-none _ _ other, laid-mismatch treeHash _ _ _ _ other counts)
+    let began = counting (c .before) in
+    let other = sym (compares (c .before)) ∙ not-true _ (c .if1 .taken) in
+    (found-none _ _ other, counts began ∙ sym (laid-none treeHash _ _ _ other))
+
+-- past the test
+matching : (c : tie.Else1) → matchesBy (functions (counting (c .before))) (image (counting (c .before))) ≡ true
+matching c = sym (compares (c .before)) ∙ not-false _ (c .if1 .left)
 
 expand-requires : tie.Need-expand-requires
 expand-requires c κs =
-    let s = c .before .before .before .before .before .before .before .before .before .before .before .before .before .before in
-    let a = s .args in
-    let buckets = c .before .before .before .before .before .before .before .before .before .before .before .buckets .ensures in
-    let counts = domain-starts (bucketBy (a .hashes)) (now (a .key)) (s .pre .0) _ _ _ (now (a .scratch)) _ (c .before .before .before .before .before .before .before .before .before .before .domain .ensures) buckets (s .pre .1) (c .before .before .before .before .before .before .before .before .starts .ensures) in
-    let same = sym (c .before .before .before .same-sizes .ensures ∙ compared _ (now (a .key)) _ (counted-part _ (now (a .key)) _ _ _ buckets counts)) ∙ not-false _ (c .before .before .if1 .left) in
-    (s .pre .0, rw (← counts) at (ready-of (now (a .key)) (s .pre .0) (bucketBy (a .hashes) (bucketsIn (now (a .key)))) (λ k x few inside. bucketBy-lt (a .hashes) (bucketsIn (now (a .key))) k x (passing _ (s .pre .0) .someBuckets)) same (now (a .scratch)) (s .pre .1)))
+    let same = c .before .before in
+    let began = counting (same .before) in
+    let s = start began in
+    let low = buckets-below (s .args .hashes) (image began) (s .pre .0) in
+    let ready = ready-of (image began) (s .pre .0) (functions began) low (matching same) (now (s .args .scratch)) (s .pre .1) in
+    (s .pre .0, rw (← counts began) at ready)
 
 returns-2 : tie.Need-returns-2
 returns-2 c =
-    let s = c .before .before .before .before .before .before .before .before .before .before .before .before .before .before .before .before .before in
-    let a = s .args in
-    let buckets = c .before .before .before .before .before .before .before .before .before .before .before .before .before .before .buckets .ensures in
-    let counts = domain-starts (bucketBy (a .hashes)) (now (a .key)) (s .pre .0) _ _ _ (now (a .scratch)) _ (c .before .before .before .before .before .before .before .before .before .before .before .before .before .domain .ensures) buckets (s .pre .1) (c .before .before .before .before .before .before .before .before .before .before .before .starts .ensures) in
-    let same = sym (c .before .before .before .before .before .before .same-sizes .ensures ∙ compared _ (now (a .key)) _ (counted-part _ (now (a .key)) _ _ _ buckets counts)) ∙ not-false _ (c .before .before .before .before .before .if1 .left) in
-    (found-one _ _ same, laid-by _ _ _ _ _ _ (c .before .before .before .before .new .ensures) same counts (c .before .before .expand .ensures))
+    let made = c .before .before .before .before in
+    let same = made .before in
+    let began = counting (same .before) in
+    (found-one _ _ (matching same), laid-by _ _ _ _ _ _ (made .new .ensures) (matching same) (counts began) (c .before .before .expand .ensures))
 
 pub lay-shares-spec : {M : Type 1} → statement M
 lay-shares-spec =

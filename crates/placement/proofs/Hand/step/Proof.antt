@@ -1,10 +1,10 @@
 -- `placement::Hand::step` meets its contract: its stores are one step of the walk that the slice shows. Assumes nothing.
-use mathlib.Core.Path.{_≡_, refl, sym, ap, _∙_}
+use mathlib.Core.Path.{_≡_, refl}
 use mathlib.Core.Logic.{⊎-elim}
-use Prim.Native.Nat.{ℕ, _+_, _-_, _<_, _≤_, min}
+use Prim.Native.Nat.{_+_, _<_, _≤_, min}
 use native.Mathlib.Omega.{arith}
 use borrow.Author.Needs.{needs}
-use lib.ListN.{length, getD, set, length-set}
+use lib.ListN.{length, getD, length-set}
 use Rattle.bucket_hash.proofs.BucketsBelow.{bucketBy-lt}
 use Rattle.placement.specs.Shares.{atPoints}
 use Rattle.placement.proofs.SliceLaws.{sound-length, sound-hand, stepped}

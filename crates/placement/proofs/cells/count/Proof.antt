@@ -1,18 +1,12 @@
 -- `placement::cells::count` meets its contract. The invariant: the cells below x are counted, and what is no counter is as it
 -- was. The measure is the cells that are left. Assumes nothing.
-use mathlib.Core.Path.{_≡_, refl, sym, ap, subst, _∙_}
-use mathlib.Core.List.{List}
-use Prim.Native.Nat.{ℕ, _+_, _-_, _<_, _≤_, _^_}
+use mathlib.Core.Path.{ap, _∙_}
+use Prim.Native.Nat.{ℕ, _-_, _<_, _≤_}
 use native.Mathlib.Omega.{arith}
 use borrow.Author.Needs.{needs}
-use lib.ListN.{length}
 use Rattle.bucket_hash.specs.BucketHash.{bucketBy}
 use Rattle.bucket_hash.proofs.BucketsBelow.{bucketBy-lt}
-use Rattle.words.specs.Bytes.{put}
-use Rattle.words.specs.Cells.{tab}
-use Rattle.placement.specs.declared.Three.{Three}
-use Rattle.placement.specs.Buckets.{sizeOf}
-use Rattle.placement.specs.Passes.{threeOf, entered, Counter, Counted}
+use Rattle.placement.specs.Passes.{entered}
 use Rattle.placement.proofs.CountLaws.{Passing, passing-start, passing-next, passing-done, counter-of}
 use Rattle.placement.proofs.cells.count.Statement.{statement}
 use Rattle.placement.proofs.cells.count.Tie as tie

@@ -1,8 +1,8 @@
 -- `placement::cells::spots` meets its contract: the cells are counted up to the one that is asked, the three counters are
 -- read, and the rest of the cells is counted. Assumes nothing.
-use mathlib.Core.Path.{_≡_, refl, sym, ap, ap₂, _∙_}
-use mathlib.Core.List.{List, [], _∷_}
-use Prim.Native.Nat.{ℕ, _+_, _*_, _<_}
+use mathlib.Core.Path.{_≡_, sym, ap, ap₂, _∙_}
+use mathlib.Core.List.{[], _∷_}
+use Prim.Native.Nat.{ℕ, _<_}
 use native.Mathlib.Omega.{arith}
 use borrow.Author.Needs.{needs}
 use borrow.Author.Tests.{leb-false}
@@ -12,8 +12,8 @@ use Rattle.words.specs.Refusals.{Index}
 use Rattle.words.proofs.TestLaws.{succeeded, refused}
 use Rattle.bucket_hash.specs.BucketHash.{bucketBy}
 use Rattle.bucket_hash.proofs.BucketsBelow.{bucketBy-lt}
-use Rattle.placement.specs.Passes.{threeOf, countersOf}
-use Rattle.placement.specs.Calls.{passNumber, spotted, noSpots, spotting}
+use Rattle.placement.specs.Passes.{countersOf}
+use Rattle.placement.specs.Calls.{passNumber, spotted, spotting}
 use Rattle.placement.proofs.PassLaws.{Passable, passable-clear, others-clear, pass-need, counters-fit, counters-zero, upto-counted, upto-fit, spot-inside, spots-read, spots-filled}
 use Rattle.placement.proofs.cells.spots.Statement.{statement}
 use Rattle.placement.proofs.cells.spots.Tie as tie

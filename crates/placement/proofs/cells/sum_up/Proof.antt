@@ -2,17 +2,15 @@
 -- the next one. The measure is the counters that are left. Assumes nothing.
 use mathlib.Core.Path.{_≡_, refl, sym, ap, _∙_}
 use mathlib.Core.List.{List}
-use Prim.Native.Nat.{ℕ, _+_, _-_, _<_, _≤_, _^_}
+use Prim.Native.Nat.{ℕ, _+_, _-_, _<_, _≤_}
 use native.Mathlib.Omega.{arith}
-use borrow.Author.Needs.{needs}
 use lib.ListN.{length, getD, set, length-set}
 use lib.Seq.{getD-set-other}
 use Rattle.words.specs.Bytes.{put}
 use Rattle.words.specs.Cells.{tab, sumTo}
 use Rattle.words.proofs.ByteLaws.{put-nil, getD-put}
-use Rattle.words.proofs.CellLaws.{length-tab, put-tab, sumTo-next}
+use Rattle.words.proofs.CellLaws.{length-tab, put-tab, sumTo-next, sum-mono}
 use Rattle.placement.specs.Passes.{sumBefore}
-use Rattle.placement.proofs.BucketLaws.{sum-mono}
 use Rattle.placement.proofs.cells.sum_up.Statement.{statement}
 use Rattle.placement.proofs.cells.sum_up.Tie as tie
 use Rattle.placement.proofs.cells.sum_up.Reads as reads

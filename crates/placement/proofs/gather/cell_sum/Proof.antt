@@ -1,5 +1,4 @@
 -- `placement::gather::cell_sum` meets its contract: what each bucket gives, each bucket once. Assumes nothing.
-use mathlib.Core.Path.{_≡_}
 use borrow.Author.Needs.{needs}
 use Rattle.placement.proofs.GatherLaws.{sum-three}
 use Rattle.placement.proofs.gather.cell_sum.Statement.{statement}
@@ -8,7 +7,7 @@ use Rattle.placement.proofs.gather.cell_sum.Tie as tie
 returns : tie.Need-returns
 returns c =
     sum-three _ _ _ _ _ _ _ _ _ _ _ _ _ (c .before .before .before .before .before .before .before .entry .ensures) (c .before .before .before .before .before .before .entry2 .ensures) (c .before .before .before .before .before .unless-counted .ensures) (c .before .before .before .before .entry3 .ensures)
-    (c .before .before .before .unless-counted2 .ensures) (c .before .before .unless-counted3 .ensures) (c .before .wrapping-add-u64 .ensures) (c .wrapping-add-u642 .ensures)
+    (c .before .before .before .unless-counted2 .ensures) (c .before .before .unless-counted3 .ensures) (c .before .plus .ensures) (c .plus2 .ensures)
 
 pub cell-sum-spec : {M : Type 1} → statement M
 cell-sum-spec =

@@ -1,71 +1,44 @@
 -- `placement::gather::gather` meets its contract: the counters are cleared, and the sums written. Assumes nothing.
-use mathlib.Core.Path.{_≡_, refl, sym, ap, ap₂, _∙_}
-use mathlib.Core.Bool.{not}
-use mathlib.Core.List.{List, [], _∷_}
-use Prim.Native.Nat.{ℕ, _+_, _*_, _<_, _≤_}
+use Prim.Native.Nat.{ℕ, _<_}
 use native.Mathlib.Omega.{arith}
 use borrow.Author.Needs.{needs}
 use borrow.Author.Tests.{ltb-false}
-use lib.Dec.{ltb}
-use lib.ListN.{length}
-use Rattle.words.specs.Refusals.{Room}
-use Rattle.words.proofs.TestLaws.{succeeded, refused}
 use Rattle.bucket_hash.specs.BucketHash.{bucketBy}
 use Rattle.bucket_hash.proofs.BucketsBelow.{bucketBy-lt}
-use Rattle.placement.specs.Calls.{passNumber, gathering, gatheringOut}
-use Rattle.placement.proofs.PassLaws.{Passable, passable-clear, others-clear, pass-need}
-use Rattle.placement.proofs.GatherLaws.{cleared-fit, cleared-counted, counters-end, sums-written}
+use Rattle.placement.specs.Calls.{gatheringOut}
+use Rattle.placement.proofs.GatherLaws.{gather-refused, gather-begun, gather-written}
 use Rattle.placement.proofs.gather.gather.Statement.{statement}
 use Rattle.placement.proofs.gather.gather.Tie as tie
-use Rattle.placement.proofs.gather.gather.Reads as reads
-use Rattle.placement.proofs.gather.gather.Lts as lts
 
-number : (c : tie.After-pass-number) → c .pass-number .result ≡ passNumber (c .before .before .before .args .domain) (c .before .before .before .args .buckets) (length (c .before .before .before .args .work .now)) (c .before .before .before .args .buckets + c .before .before .before .args .buckets + 6 * c .before .before .before .args .domain) ((ltb (length (c .before .before .before .args .out .now)) (c .before .before .before .args .domain), Room) ∷ [])
-number c = c .pass-number .ensures ∙ pass-need _ _ _ _ _ _ (omega arith)
-
-clear : (c : tie.Else1) → passNumber (c .before .before .before .before .args .domain) (c .before .before .before .before .args .buckets) (length (c .before .before .before .before .args .work .now)) (c .before .before .before .before .args .buckets + c .before .before .before .before .args .buckets + 6 * c .before .before .before .before .args .domain) ((ltb (length (c .before .before .before .before .args .out .now)) (c .before .before .before .before .args .domain), Room) ∷ []) ≡ 0
-clear c = sym (number (c .before)) ∙ c .if1 .left
-
-facts : (c : tie.Else1) → Passable (c .before .before .before .before .args .domain) (c .before .before .before .before .args .buckets) (length (c .before .before .before .before .args .work .now)) (c .before .before .before .before .args .buckets + c .before .before .before .before .args .buckets + 6 * c .before .before .before .before .args .domain)
-facts c = passable-clear _ _ _ _ ((ltb (length (c .before .before .before .before .args .out .now)) (c .before .before .before .before .args .domain), Room) ∷ []) tt (clear c)
-
-room : (c : tie.Else1) → c .before .before .before .before .args .buckets + c .before .before .before .before .args .buckets ≤ length (c .before .before .before .before .args .work .now)
-room c = omega (arith, facts c .room)
-
-enough : (c : tie.Else1) → c .before .before .before .before .args .domain ≤ length (c .before .before .before .before .args .out .now)
-enough c = ltb-false _ _ (others-clear _ _ _ _ ((ltb (length (c .before .before .before .before .args .out .now)) (c .before .before .before .before .args .domain), Room) ∷ []) tt (clear c))
-
-low : (c : tie.Else1) → (k x : ℕ) → k < 3 → bucketBy (c .before .before .before .before .args .hashes) (c .before .before .before .before .args .buckets) k x < c .before .before .before .before .args .buckets
-low c k x l = bucketBy-lt _ _ k x (facts c .some)
+low : (s : tie.Start) → 0 < s .args .buckets → (k x : ℕ) → k < 3 → bucketBy (s .args .hashes) (s .args .buckets) k x < s .args .buckets
+low s some k x l = bucketBy-lt _ _ k x some
 
 returns : tie.Need-returns
 unfolding gatheringOut
-returns c = rw (← number (c .before)) (sym (refused _ _ _ (c .if1 .taken)))
+returns c =
+    let e = c .before .before .before .begin .ensures in
+    gather-refused _ _ _ _ _ _ (e .0) (e .1) _ _ (c .if1 .taken)
 
 write-sums-requires : tie.Need-write-sums-requires
 write-sums-requires c κs =
-    let e = c .before .before .before .before .before .before in
-    let f = facts e in
-    let cleared = c .before .before .before .before .clear-counters .ensures in
-    let d : ℕ = c .before .before .before .before .before .before .before .before .before .before .args .domain in
-    (f .some, f .few, omega (arith, f .domain), cleared-fit _ _ (low e) d _ _ (room e) cleared, enough e, cleared-counted _ _ (low e) d _ _ (room e) cleared)
+    let e = c .before .before .before .before .before .begin .ensures in
+    let q = gather-begun _ _ _ _ _ _ (e .0) (e .1) tt (c .before .before .if1 .left) _ (low (c .before .before .before .before .before .before .before .before .before)) in
+    (q .some, q .few, omega (arith, q .domain), q .fit, ltb-false _ _ (q .own), q .counted)
 
 returns-2 : tie.Need-returns-2
 unfolding gatheringOut
 returns-2 c =
-    let e = c .before .before .before .before .before .before .before .before .before .before .before in
-    let cleared = c .before .before .before .before .before .before .before .before .before .clear-counters .ensures in
+    let e = c .before .before .before .before .before .before .before .before .before .before .begin .ensures in
     let done = c .before .before .before .before .write-sums .ensures in
-    ap₂ (gathering 0) (counters-end _ _ (low e) _ _ _ (room e) cleared _ _ refl (done .0)) (sums-written _ _ (low e) _ _ _ (room e) cleared _ _ (done .1))
-    ∙ sym (succeeded _ _ _ (clear e))
+    gather-written _ _ _ _ _ _ (e .0) (e .1) tt (c .before .before .before .before .before .before .before .if1 .left) _ (low (c .before .before .before .before .before .before .before .before .before .before .before .before .before .before)) _ _ _ _ (done .0) (done .1)
 
 pub gather-spec : {M : Type 1} → statement M
 gather-spec =
     tie.close
     (tie.spec
     (λ c κs. search needs)
+    (λ c. search needs)
     returns
-    (λ c κs. room (c .before))
     write-sums-requires
     (λ c. search needs)
     (λ c. search needs)

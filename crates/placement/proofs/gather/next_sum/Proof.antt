@@ -1,14 +1,14 @@
 -- `placement::gather::next_sum` meets its contract: the sum is made before the cell is counted. Assumes nothing.
-use mathlib.Core.Path.{_≡_, ap, _∙_}
-use Prim.Native.Nat.{ℕ, _+_, _%_, _^_, _<_, _≤_}
+use mathlib.Core.Path.{ap, _∙_}
+use Prim.Native.Nat.{ℕ, _+_, _%_, _^_, _<_}
 use native.Mathlib.Omega.{arith}
 use borrow.Author.Needs.{needs}
-use lib.ListN.{length, getD}
+use lib.ListN.{getD}
 use Rattle.bucket_hash.specs.BucketHash.{bucketBy}
 use Rattle.bucket_hash.proofs.BucketsBelow.{bucketBy-lt}
 use Rattle.placement.specs.declared.Three.{Three}
 use Rattle.placement.specs.Shares.{once3}
-use Rattle.placement.specs.Passes.{threeOf, entered, entryAt, Counter}
+use Rattle.placement.specs.Passes.{entered, entryAt, Counter}
 use Rattle.placement.proofs.CountLaws.{counter-of}
 use Rattle.placement.proofs.gather.next_sum.Statement.{statement}
 use Rattle.placement.proofs.gather.next_sum.Tie as tie

@@ -1,11 +1,9 @@
 -- `placement::gather::write_sums` meets its contract. The invariant: the cells below x are counted and their sums written. The
 -- measure is the cells that are left. Assumes nothing.
 use mathlib.Core.Path.{_≡_, refl, sym, ap, _∙_}
-use mathlib.Core.List.{List}
-use Prim.Native.Nat.{ℕ, _+_, _-_, _<_, _≤_, _^_}
+use Prim.Native.Nat.{ℕ, _-_, _<_, _≤_}
 use native.Mathlib.Omega.{arith}
-use borrow.Author.Needs.{needs}
-use lib.ListN.{length, getD, length-set}
+use lib.ListN.{length, length-set}
 use Rattle.words.specs.Bytes.{put}
 use Rattle.words.specs.Cells.{tab}
 use Rattle.words.proofs.ByteLaws.{put-nil}

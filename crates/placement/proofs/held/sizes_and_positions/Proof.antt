@@ -1,13 +1,12 @@
 -- `placement::held::sizes_and_positions` meets its contract. The invariant: the cells below x are counted and noted. The measure
 -- is the cells that are left. Assumes nothing.
-use mathlib.Core.Path.{_≡_, refl, sym, ap, _∙_}
-use Prim.Native.Nat.{ℕ, _+_, _-_, _<_, _≤_, _^_}
+use mathlib.Core.Path.{ap, _∙_}
+use Prim.Native.Nat.{ℕ, _-_, _<_, _≤_}
 use native.Mathlib.Omega.{arith}
 use borrow.Author.Needs.{needs}
-use lib.ListN.{length}
 use Rattle.bucket_hash.specs.BucketHash.{bucketBy}
 use Rattle.bucket_hash.proofs.BucketsBelow.{bucketBy-lt}
-use Rattle.placement.specs.Passes.{threeOf, entered, notedIn}
+use Rattle.placement.specs.Passes.{entered, notedIn}
 use Rattle.placement.proofs.CountLaws.{counter-of}
 use Rattle.placement.proofs.NoteLaws.{Noting, noting-start, noting-labels, noting-three, noting-enter, noting-done}
 use Rattle.placement.proofs.held.sizes_and_positions.Statement.{statement}

@@ -1,7 +1,7 @@
 -- `placement::points::rising` meets its contract. The invariant: what is left of the list, from the next lowest point on, rises
 -- as the whole does. The measure is what is left. Assumes nothing.
 use mathlib.Core.Path.{_≡_, refl, sym, _∙_}
-use Prim.Native.Nat.{ℕ, _-_, _≤_}
+use Prim.Native.Nat.{_-_, _≤_}
 use native.Mathlib.Omega.{arith}
 use borrow.Author.Needs.{needs}
 use lib.ListN.{length, drop}

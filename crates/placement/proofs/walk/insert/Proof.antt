@@ -1,12 +1,13 @@
 -- `placement::walk::insert` meets its contract. The invariant: what is left of the tries comes to what they all come to. The
 -- measure is the tries that are left. Assumes nothing.
-use mathlib.Core.Path.{_≡_, refl, sym, ap, _∙_}
-use Prim.Native.Nat.{ℕ, _+_, _-_, _<_, _≤_}
+use mathlib.Core.Path.{sym, _∙_}
+use Prim.Native.Nat.{_+_, _-_}
 use native.Mathlib.Omega.{arith}
 use lib.ListN.{length}
 use Rattle.bucket_hash.specs.BucketHash.{bucketBy}
 use Rattle.placement.specs.Shares.{atPoints}
-use Rattle.placement.proofs.SliceLaws.{Trying, trying-start, trying-done, trying-out, trying-step, sound-length}
+use Rattle.placement.proofs.SliceLaws.{sound-length}
+use Rattle.placement.proofs.TurnLaws.{Trying, trying-start, trying-done, trying-out, trying-step}
 use Rattle.placement.proofs.walk.insert.Statement.{statement}
 use Rattle.placement.proofs.walk.insert.Tie as tie
 use Rattle.placement.proofs.walk.insert.Reads as reads

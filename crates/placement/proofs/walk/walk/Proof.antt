@@ -1,19 +1,19 @@
 -- `placement::walk::walk` meets its contract. The invariant: the slice shows the walk over the points passed. The measure is
 -- the points that are left. Assumes nothing.
-use mathlib.Core.Path.{_≡_, refl, sym, ap, _∙_}
+use mathlib.Core.Path.{_≡_, sym, ap, _∙_}
 use mathlib.Core.List.{List}
-use Prim.Native.Nat.{ℕ, _+_, _-_, _*_, _<_, _≤_}
+use Prim.Native.Nat.{ℕ, _+_, _-_, _*_, _≤_}
 use native.Mathlib.Nat.{le-refl, mul-le-mul}
 use native.Mathlib.Omega.{arith}
 use borrow.Author.Needs.{needs}
 use lib.ListN.{length, replicate, length-replicate}
-use Rattle.words.specs.Bytes.{put}
 use Rattle.words.specs.Cells.{zeroed}
 use Rattle.words.proofs.ByteLaws.{put-whole}
 use Rattle.words.proofs.CellLaws.{zeroed-le}
 use Rattle.bucket_hash.specs.BucketHash.{bucketBy}
 use Rattle.placement.specs.Shares.{atPoints}
-use Rattle.placement.proofs.SliceLaws.{Placing, placing-start, placing-ready, placing-next, placing-gave-up, placing-done, sound-length}
+use Rattle.placement.proofs.SliceLaws.{sound-length}
+use Rattle.placement.proofs.TurnLaws.{Placing, placing-start, placing-ready, placing-next, placing-gave-up, placing-done}
 use Rattle.placement.proofs.walk.walk.Statement.{statement}
 use Rattle.placement.proofs.walk.walk.Tie as tie
 use Rattle.placement.proofs.walk.walk.Reads as reads

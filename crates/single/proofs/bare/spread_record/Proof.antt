@@ -11,7 +11,7 @@ use Rattle.words.proofs.TestLaws.{succeeded, refused}
 use Rattle.cipher.specs.TreeHash.{hashBy}
 use Rattle.single.specs.declared.SingleKey.{SingleKey}
 use Rattle.single.specs.Rules as rule
-use Rattle.single.specs.Keys.{recordOf, keyOf, Sound}
+use Rattle.single.specs.Keys.{recordOf, keyOf}
 use Rattle.single.specs.Nodes.{spread}
 use Rattle.single.specs.Record.{sizeIn, recordIn}
 use Rattle.single.specs.Bare.{spreadNumber, spreading, spreadRecord}

@@ -31,7 +31,7 @@ share-requires c κs = rw (c .before .get-image .ensures) (sound-few (sound-in _
 returns-2 : tie.Need-returns-2
 returns-2 c =
     let a = c .before .before .before .before .before .before .before .args in
-    rw (c .share .ensures, c .before .new .ensures, c .before .before .before .party-in .ensures, c .before .before .get-image .ensures, record-back)
+    rw (c .share .ensures, c .before .new .ensures, c .before .before .before .side-in .ensures, c .before .before .get-image .ensures, record-back)
     (sym (at-done treeHash (now (a .key)) (a .index) (clear (c .before .before .before .before))))
 
 pub evaluate-at-spec : {M : Type 1} → statement M

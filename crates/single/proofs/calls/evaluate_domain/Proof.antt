@@ -1,17 +1,14 @@
--- `single::calls::evaluate_domain` meets its contract: a refusal leaves both slices, and past it the image gives the key and the party.
--- Assumes nothing.
-use mathlib.Core.Path.{_≡_, sym, ap, ap₂, _∙_}
-use mathlib.Core.List.{List}
-use Prim.Native.Nat.{ℕ}
+-- `single::calls::evaluate_domain` meets its contract: a refusal leaves both slices; past it the shares are spread in the scratch and
+-- written out from there, and the scratch is zeroed. Assumes nothing.
+use mathlib.Core.Path.{_≡_, sym, _∙_}
 use native.Mathlib.Omega.{arith}
 use borrow.Author.Needs.{needs}
 use denote.Ref.{now}
 use lib.ListN.{length}
 use Rattle.cipher.specs.TreeHash.{treeHash}
-use Rattle.single.specs.declared.SingleKey.{SingleKey}
-use Rattle.single.specs.Calls.{sizeOf, Evaluating, evaluating, evaluateDomainNumber}
-use Rattle.single.proofs.KeyLaws.{record-back}
-use Rattle.single.proofs.CallLaws.{size-in, sound-in, DomainClear, domain-clear, domain-done, domain-refused}
+use Rattle.single.specs.Calls.{evaluateDomainNumber}
+use Rattle.single.proofs.CallLaws.{DomainClear, domain-clear, domain-refused}
+use Rattle.single.proofs.SpreadLaws.{domain-from}
 use Rattle.single.proofs.calls.evaluate_domain.Statement.{statement}
 use Rattle.single.proofs.calls.evaluate_domain.Tie as tie
 
@@ -28,23 +25,21 @@ none c = sym (c .before .evaluate-domain-number .ensures) ∙ c .if1 .left
 clear : (c : tie.Else1) → let a = c .before .before .before .before .before .args in DomainClear (now (a .key)) (length (now (a .scratch))) (length (now (a .out)))
 clear c = domain-clear _ _ _ (none c)
 
-size-is : (c : tie.After-get-image) → c .get-image .result .size ≡ sizeOf (now (c .before .before .before .before .before .before .before .args .key))
-size-is c = ap (λ (k : SingleKey). k .size) (c .get-image .ensures) ∙ size-in (now (c .before .before .before .before .before .before .before .args .key))
+write-shares-requires : tie.Need-write-shares-requires
+write-shares-requires c κs =
+    let q = clear (c .before .before .before .before .before .before .before) in
+    let size = c .before .before .before .before .before .before .size-of .ensures in
+    (omega (arith, q .enough), omega (arith, q .fits))
 
-write-domain-requires : tie.Need-write-domain-requires
-write-domain-requires c κs =
-    let q = clear (c .before .before .before .before .before) in
-    let size = size-is (c .before .before .before) in
-    (rw (c .before .before .before .get-image .ensures) (sound-in _ (q .ok)), (omega arith, omega arith))
+mul-zero-first : tie.Need-mul-zero-first
+mul-zero-first c = omega (arith, clear (c .before .before .before .before .before .before .before .before .before .before .before) .enough, c .before .before .before .before .before .before .before .before .before .before .size-of .ensures)
 
 returns-2 : tie.Need-returns-2
 returns-2 c =
-    let a = c .before .before .before .before .before .before .before .before .before .before .before .before .before .before .before .args in
-    let wrote = c .before .before .before .before .write-domain .ensures in
-    let shares = rw (c .before .before .before .before .before .before .before .new .ensures, c .before .before .before .before .before .before .before .before .before .party-in .ensures, c .before .before .before .before .before .before .before .before .get-image .ensures, record-back) at (wrote .0) in
-    let zeros = rw (size-is (c .before .before .before .before .before .before .before .before)) at (wrote .1) in
-    ap₂ {A = List ℕ} {B = List ℕ} {C = Evaluating} (λ s o. evaluating 0 s o) zeros shares
-    ∙ sym (domain-done treeHash (now (a .key)) (now (a .scratch)) (now (a .out)) (none (c .before .before .before .before .before .before .before .before .before .before)))
+    let a = c .before .before .before .before .before .before .before .before .before .before .before .before .before .before .before .before .before .before .before .args in
+    let size = c .before .before .before .before .before .before .before .before .before .before .before .before .before .size-of .ensures in
+    domain-from treeHash (now (a .key)) (now (a .scratch)) (c .before .before .before .before .before .before .before .before .before .before .before .spread-image .ensures) _ (c .before .before .zero-first .ensures) (omega (arith, size)) (now (a .out))
+    (none (c .before .before .before .before .before .before .before .before .before .before .before .before .before .before)) (rw size at (c .before .before .before .before .before .before .write-shares .ensures))
 
 pub evaluate-domain-spec : {M : Type 1} → statement M
 evaluate-domain-spec =
@@ -53,9 +48,10 @@ evaluate-domain-spec =
     (λ c κs. search needs)
     returns
     (λ c κs. search needs)
-    (λ c κs. clear (c .before) .ok)
+    (λ c κs. let q = clear (c .before .before) in (q .ok, q .enough))
+    write-shares-requires
+    mul-zero-first
     (λ c κs. search needs)
-    write-domain-requires
     (λ c. search needs)
     (λ c. search needs)
     returns-2)

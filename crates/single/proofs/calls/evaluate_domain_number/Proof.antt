@@ -1,63 +1,53 @@
--- `single::calls::evaluate_domain_number` meets its contract: the refusals in their order. Assumes nothing.
+-- `single::calls::evaluate_domain_number` meets its contract: the refusals in their order. Half of the scratch is compared, so that
+-- nothing is multiplied. Assumes nothing.
 use mathlib.Core.Path.{_≡_, sym, ap, _∙_}
-use mathlib.Core.Bool.{not}
+use mathlib.Core.Bool.{false, not}
 use mathlib.Core.List.{List}
-use Prim.Native.Nat.{ℕ, _*_, _≤_}
+use Prim.Native.Nat.{ℕ, _*_}
 use native.Mathlib.Omega.{arith}
 use borrow.Author.Needs.{needs}
-use borrow.Author.Tests.{lt-ltb, le-ltb, not-false}
+use borrow.Author.Tests.{lt-ltb, le-ltb}
 use denote.Ref.{now}
-use lib.ListN.{drop}
-use Rattle.words.specs.Height.{largest}
-use Rattle.words.specs.Refusals.{first}
-use Rattle.words.proofs.TestLaws.{first-none, first-hit, first-miss}
+use lib.Dec.{ltb}
+use Rattle.single.specs.Image.{imageOk}
 use Rattle.single.specs.Calls.{sizeOf, evaluateDomainTests, evaluateDomainNumber}
-use Rattle.single.proofs.CallLaws.{size-most}
+use Rattle.single.proofs.CallLaws.{first-of, second-of, third-of, none-of}
 use Rattle.single.proofs.calls.evaluate_domain_number.Statement.{statement}
 use Rattle.single.proofs.calls.evaluate_domain_number.Tie as tie
 
 abbrev bytes : tie.Start → List ℕ
 bytes s = now (s .args .key)
 
-abbrev Past : ℕ → tie.Start → Type 0
-Past k s = evaluateDomainNumber (bytes s) (s .args .scratch) (s .args .room) ≡ first (drop k (evaluateDomainTests (bytes s) (s .args .scratch) (s .args .room)))
+-- past the first test
+image : (c : tie.Else1) → not (imageOk (bytes (c .before .before .before))) ≡ false
+image c = ap not (sym (c .before .image-ok .ensures)) ∙ c .if1 .left
 
-past-1 : (c : tie.Else1) → Past 1 (c .before .before .before)
-unfolding evaluateDomainNumber evaluateDomainTests
-past-1 c = first-miss _ _ (ap not (sym (c .before .image-ok .ensures)) ∙ c .if1 .left)
-
--- the product that is tested fits
-most : (c : tie.After-size-of) → c .size-of .result ≤ largest
-most c = rw (c .size-of .ensures) (size-most (bytes (c .before .before .before .before)) (sym (c .before .before .image-ok .ensures) ∙ not-false _ (c .before .if1 .left)))
-
-past-2 : (c : tie.Else2) → Past 2 (c .before .before .before .before .before)
-unfolding evaluateDomainNumber evaluateDomainTests
-past-2 c =
-    let s = c .before .before .before .before .before in
-    past-1 (c .before .before) ∙ first-miss _ _ (le-ltb (s .args .scratch) (2 * sizeOf (bytes s)) (omega (arith, c .before .size-of .ensures)))
+-- past the second
+enough : (c : tie.Else2) → let s = c .before .before .before .before .before in ltb (s .args .scratch) (2 * sizeOf (bytes s)) ≡ false
+enough c = let s = c .before .before .before .before .before in le-ltb (s .args .scratch) (2 * sizeOf (bytes s)) (omega (arith, c .before .size-of .ensures))
 
 returns : tie.Need-returns
 unfolding evaluateDomainNumber evaluateDomainTests
-returns c = sym (first-hit _ _ (ap not (sym (c .before .image-ok .ensures)) ∙ c .if1 .taken))
+returns c = sym (first-of _ _ _ (ap not (sym (c .before .image-ok .ensures)) ∙ c .if1 .taken))
 
 returns-2 : tie.Need-returns-2
 unfolding evaluateDomainNumber evaluateDomainTests
 returns-2 c =
     let s = c .before .before .before .before .before in
-    sym (past-1 (c .before .before) ∙ first-hit _ _ (lt-ltb (s .args .scratch) (2 * sizeOf (bytes s)) (omega (arith, c .before .size-of .ensures))))
+    sym (second-of _ _ _ (image (c .before .before)) (lt-ltb (s .args .scratch) (2 * sizeOf (bytes s)) (omega (arith, c .before .size-of .ensures))))
 
 returns-3 : tie.Need-returns-3
 unfolding evaluateDomainNumber evaluateDomainTests
 returns-3 c =
     let s = c .before .before .before .before .before .before in
-    sym (past-2 (c .before) ∙ first-hit _ _ (lt-ltb (s .args .room) (sizeOf (bytes s)) (omega (arith, c .before .before .size-of .ensures))))
+    sym (third-of _ _ _ (image (c .before .before .before)) (enough (c .before)) (lt-ltb (s .args .room) (sizeOf (bytes s)) (omega (arith, c .before .before .size-of .ensures))))
 
 returns-4 : tie.Need-returns-4
 unfolding evaluateDomainNumber evaluateDomainTests
 returns-4 c =
     let s = c .before .before .before .before .before .before in
-    sym (past-2 (c .before) ∙ first-miss _ _ (le-ltb (s .args .room) (sizeOf (bytes s)) (omega (arith, c .before .before .size-of .ensures))) ∙ first-none)
+    sym (none-of _ _ _ (image (c .before .before .before)) (enough (c .before)) (le-ltb (s .args .room) (sizeOf (bytes s)) (omega (arith, c .before .before .size-of .ensures))))
 
 pub evaluate-domain-number-spec : {M : Type 1} → statement M
 evaluate-domain-number-spec =
-    tie.close (tie.spec (λ c κs. search needs) returns (λ c κs. search needs) (λ c. omega (arith, most c)) returns-2 returns-3 returns-4)
+    tie.close (tie.spec (λ c κs. search needs) returns (λ c κs. search needs) returns-2 returns-3 returns-4)

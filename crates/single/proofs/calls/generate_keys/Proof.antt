@@ -6,18 +6,18 @@ use native.Mathlib.Omega.{arith}
 use borrow.Author.Needs.{needs}
 use denote.Ref.{now}
 use lib.ListN.{length}
+use Rattle.words.specs.Cells.{wordNo}
 use Rattle.cipher.specs.TreeHash.{treeHash}
 use Rattle.single.specs.declared.SingleKey.{SingleKey}
 use Rattle.single.specs.declared.make.Pair.{Pair}
 use Rattle.single.specs.Rules.{Record, made}
-use Rattle.single.specs.Nodes.{nodeAt}
 use Rattle.single.specs.Keys.{recordOf, keyOf}
 use Rattle.single.specs.Making.{pairOf}
 use Rattle.single.specs.Record.{wordCount}
 use Rattle.single.specs.Image.{imageBytes}
-use Rattle.single.specs.Calls.{randomWord, imageMade, generateNumber}
+use Rattle.single.specs.Calls.{imageMade, generateNumber}
 use Rattle.single.proofs.KeyLaws.{record-back}
-use Rattle.single.proofs.RecordLaws.{in-limits}
+use Rattle.words.proofs.HeightLaws.{in-limits}
 use Rattle.single.proofs.CallLaws.{MakeClear, make-clear, count-made, generate-done, generate-refused}
 use Rattle.single.proofs.calls.generate_keys.Statement.{statement}
 use Rattle.single.proofs.calls.generate_keys.Tie as tie
@@ -37,16 +37,15 @@ clear c = make-clear _ _ _ _ _ (none c)
 
 -- the pair that the rules make
 pair-is : (c : tie.After-make-pair) → let a = c .before .before .before .before .before .before .before .before .before .args in
-    c .make-pair .result ≡ pairOf treeHash (a .domain) (a .point) (a .value) (randomWord (now (a .words)) 0) (randomWord (now (a .words)) 1)
-unfolding nodeAt
-pair-is c = rw (c .before .new .ensures, c .before .before .before .random-word .ensures, c .before .before .random-word2 .ensures) at (c .make-pair .ensures)
+    c .make-pair .result ≡ pairOf treeHash (a .domain) (a .point) (a .value) (wordNo (now (a .words)) 0) (wordNo (now (a .words)) 1)
+pair-is c = rw (c .before .new .ensures, c .before .before .before .word-no .ensures, c .before .before .word-no2 .ensures) at (c .make-pair .ensures)
 
 -- each party's key, how many words it has, and the image of what it holds
 module _ (c : tie.After-make-pair) where
   abbrev record-of : Bool → Record
   record-of p =
       let a = c .before .before .before .before .before .before .before .before .before .args in
-      made treeHash (a .domain) (a .point) (randomWord (now (a .words)) 0) (randomWord (now (a .words)) 1) 64 (a .value) p
+      made treeHash (a .domain) (a .point) (wordNo (now (a .words)) 0) (wordNo (now (a .words)) 1) 64 (a .value) p
 
   first-key : c .make-pair .result .key0 ≡ keyOf (record-of false)
   unfolding pairOf

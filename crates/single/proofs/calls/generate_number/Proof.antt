@@ -10,7 +10,7 @@ use Rattle.words.specs.Refusals.{first}
 use Rattle.words.proofs.TestLaws.{first-none, first-hit, first-miss}
 use Rattle.single.specs.Image.{imageLength}
 use Rattle.single.specs.Calls.{wordsNeeded, generateTests, generateNumber}
-use Rattle.single.proofs.RecordLaws.{in-limits}
+use Rattle.words.proofs.HeightLaws.{in-limits}
 use Rattle.single.proofs.calls.generate_number.Statement.{statement}
 use Rattle.single.proofs.calls.generate_number.Tie as tie
 

@@ -1,7 +1,6 @@
 -- `single::domain::expand_inner` meets its contract. The invariant is `Layered`: layer j stands in the slice. The measure is the
 -- number of layers that are left. Assumes nothing.
-use mathlib.Core.Path.{_≡_}
-use Prim.Native.Nat.{ℕ, _+_, _-_, _/_, _^_, _≤_}
+use Prim.Native.Nat.{_+_, _-_, _/_, _^_, _≤_}
 use lib.Pow.{shr-le}
 use native.Mathlib.Omega.{arith}
 use borrow.Author.Needs.{needs}

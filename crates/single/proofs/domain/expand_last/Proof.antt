@@ -1,8 +1,5 @@
 -- `single::domain::expand_last` meets its contract. The invariant is `Growing`: the nodes from i on are grown. The measure is i.
 -- Assumes nothing.
-use mathlib.Core.Path.{_≡_, ap, _∙_}
-use Prim.Native.Nat.{ℕ, _+_, _-_}
-use native.Mathlib.Omega.{arith}
 use borrow.Author.Needs.{needs}
 use denote.Ref.{now}
 use Rattle.cipher.specs.TreeHash.{hashBy}

@@ -15,14 +15,14 @@ use Rattle.single.proofs.domain.grow.Tie as tie
 -- a level by way of the hash that was made
 stepped : (H : Word → Word) (a : Bool) (cw : Word) {s t x r : Word} → s ≡ t → x ≡ H s → r ≡ x ⊕ s when a ⊕ cw when odd s → r ≡ rule.step H a cw t
 unfolding rule.step
-stepped H a cw p q e = cc
+stepped H a cw p q e = rw (e, q, p)
 
 returns : tie.Need-returns
 returns c =
     let s = c .before .before .before .before .before .before .before .before .before .before .before .before .before .before .before in
     let a = s .args in
     let H = hashBy (a .h) in
-    let read = c .before .before .before .before .before .before .before .before .before .before .before .before .node .ensures in
+    let read = c .before .before .before .before .before .before .before .before .before .before .before .before .word-no .ensures in
     let hashed = c .before .before .before .before .before .before .before .before .before .before .before .hash .ensures in
     grow-two (λ b x. rule.step H b (a .cw) x) (now (a .nodes)) (a .i) (a .next) _ _ (c .before .before .before .before .before .before .before .before .set-node .ensures) (c .before .before .set-node2 .ensures)
     (stepped H _ (a .cw) read hashed (c .before .before .before .before .before .before .before .before .before .moved .ensures)) (stepped H _ (a .cw) read hashed (c .before .before .before .moved2 .ensures)) (c .before .before .before .before .before .if1 .taken) (s .pre .1)
@@ -31,7 +31,7 @@ returns-2 : tie.Need-returns-2
 returns-2 c =
     let a = c .before .before .before .before .before .before .before .before .before .before .args in
     let H = hashBy (a .h) in
-    let read = c .before .before .before .before .before .before .before .node .ensures in
+    let read = c .before .before .before .before .before .before .before .word-no .ensures in
     let hashed = c .before .before .before .before .before .before .hash .ensures in
     grow-one (λ b x. rule.step H b (a .cw) x) (now (a .nodes)) (a .i) (a .next) _ (c .before .before .before .set-node .ensures)
     (stepped H _ (a .cw) read hashed (c .before .before .before .before .moved .ensures)) (c .if1 .left)

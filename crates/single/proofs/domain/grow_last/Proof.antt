@@ -15,14 +15,14 @@ use Rattle.single.proofs.domain.grow_last.Tie as tie
 
 -- the share is made of the node that was read
 stored : (W : Bool → Word → ℕ) (a : Bool) {s t : Word} {r : ℕ} → s ≡ t → r ≡ W a s → lowWord r ≡ lowWord (W a t)
-stored W a p e = cc
+stored W a p e = rw (e, p)
 
 returns : tie.Need-returns
 returns c =
     let s = c .before .before .before .before .before .before .before .before .before .before .before .before .before .before in
     let a = s .args in
     let W = worth (hashBy (a .h)) 64 (a .party) (a .e) in
-    let read = c .before .before .before .before .before .before .before .before .before .before .before .node .ensures in
+    let read = c .before .before .before .before .before .before .before .before .before .before .before .word-no .ensures in
     grow-two (λ b x. lowWord (W b x)) (now (a .nodes)) (a .i) (a .cells) _ _ (c .before .before .before .before .before .before .before .before .set-node .ensures) (c .before .before .set-node2 .ensures)
     (stored W _ read (c .before .before .before .before .before .before .before .before .before .share-of .ensures)) (stored W _ read (c .before .before .before .share-of2 .ensures)) (c .before .before .before .before .before .if1 .taken) (s .pre .1)
 
@@ -30,7 +30,7 @@ returns-2 : tie.Need-returns-2
 returns-2 c =
     let a = c .before .before .before .before .before .before .before .before .before .args in
     let W = worth (hashBy (a .h)) 64 (a .party) (a .e) in
-    let read = c .before .before .before .before .before .before .node .ensures in
+    let read = c .before .before .before .before .before .before .word-no .ensures in
     grow-one (λ b x. lowWord (W b x)) (now (a .nodes)) (a .i) (a .cells) _ (c .before .before .before .set-node .ensures)
     (stored W _ read (c .before .before .before .before .share-of .ensures)) (c .if1 .left)
 

@@ -5,7 +5,7 @@ use mathlib.Core.List.{List}
 use Prim.Native.Nat.{ℕ}
 use borrow.Author.Needs.{needs}
 use denote.Ref.{now}
-use Rattle.words.specs.Height.{largest}
+use Rattle.words.specs.Limits.{largestSingle}
 use Rattle.single.specs.Keys.{keyOf}
 use Rattle.single.specs.Record.{recordIn, recordOk}
 use Rattle.single.proofs.ImageLaws.{imaged, length-image, tail-all}
@@ -15,7 +15,7 @@ use Rattle.single.proofs.image.get_image.Tie as tie
 get-key-requires : tie.Need-get-key-requires
 get-key-requires c κs =
     let s = c .before .before in
-    ap (recordOk largest) (tail-all (now (s .args .l)) 8) ∙ imaged _ (s .pre) .kept
+    ap (recordOk largestSingle) (tail-all (now (s .args .l)) 8) ∙ imaged _ (s .pre) .kept
 
 returns : tie.Need-returns
 returns c = c .get-key .ensures ∙ ap (λ (r : List ℕ). keyOf (recordIn r)) (tail-all (now (c .before .before .before .args .l)) 8)

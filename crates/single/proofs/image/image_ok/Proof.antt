@@ -8,7 +8,7 @@ use borrow.Author.Needs.{needs}
 use borrow.Author.Tests.{eq-eqb, ne-eqb, le-leb, lt-leb}
 use denote.Ref.{now}
 use lib.ListN.{drop}
-use Rattle.words.specs.Height.{largest}
+use Rattle.words.specs.Limits.{largestSingle}
 use Rattle.words.specs.Bytes.{field}
 use Rattle.words.specs.Refusals.{every}
 use Rattle.words.proofs.TestLaws.{every-pass, every-fail}
@@ -47,7 +47,7 @@ returns-3 c = sym (past-1 (c .before .before) ∙ every-fail _ (ne-eqb _ _ (λ e
 returns-4 : tie.Need-returns-4
 unfolding imageOk imageTests
 returns-4 c =
-    c .record-ok .ensures ∙ ap (recordOk largest) (tail-all (bytes (c .before .before .before .before .before .before .before .before)) 8) ∙ sym (past-2 (c .before .before) ∙ every-one _)
+    c .record-ok .ensures ∙ ap (recordOk largestSingle) (tail-all (bytes (c .before .before .before .before .before .before .before .before)) 8) ∙ sym (past-2 (c .before .before) ∙ every-one _)
 
 pub image-ok-spec : {M : Type 1} → statement M
 image-ok-spec =

@@ -7,12 +7,12 @@ use borrow.Author.Needs.{needs}
 use denote.Ref.{now}
 use lib.ListN.{length, length-append}
 use Rattle.words.specs.Bytes.{leBytes}
-use Rattle.words.proofs.ByteLaws.{length-leBytes}
+use Rattle.words.proofs.ByteLaws.{length-leBytes, stored-first, stored-next}
 use Rattle.single.specs.Keys.{recordOf}
 use Rattle.single.specs.Record.{recordBytes}
 use Rattle.single.specs.Image.{imageBytes}
 use Rattle.single.proofs.KeyLaws.{length-wordsFrom}
-use Rattle.single.proofs.RecordLaws.{stored-first, stored-next, length-recordBytes}
+use Rattle.single.proofs.RecordLaws.{length-recordBytes}
 use Rattle.single.proofs.image.put_image.Statement.{statement}
 use Rattle.single.proofs.image.put_image.Tie as tie
 

@@ -1,5 +1,4 @@
 -- `single::make::make_pair` meets its contract: one cell, or more. Assumes nothing.
-use mathlib.Core.Path.{_∙_, sym}
 use borrow.Author.Tests.{eq-eqb}
 use Rattle.single.specs.Rules.{made}
 use Rattle.single.specs.Making.{pairOf}

@@ -6,7 +6,8 @@ use Rattle.single.proofs.make.split.Tie as tie
 
 returns : tie.Need-returns
 unfolding rule.split
-returns c = cc
+returns c =
+    rw (c .xor3 .ensures, c .before .hash2 .ensures, c .before .before .xor2 .ensures, c .before .before .before .hash .ensures, c .before .before .before .before .xor .ensures, c .before .before .before .before .before .when .ensures)
 
 pub split-spec : {M : Type 1} → statement M
 split-spec =

@@ -13,7 +13,8 @@ use Rattle.single.specs.Keys.{keyOf}
 use Rattle.single.specs.Record.{noRecord}
 use Rattle.single.specs.Making.{pairOf}
 use Rattle.single.specs.Pairs.{keysFor}
-use Rattle.single.proofs.RecordLaws.{limits-of, tree-number}
+use Rattle.words.proofs.HeightLaws.{limits-of}
+use Rattle.single.proofs.RecordLaws.{tree-number}
 use Rattle.single.proofs.pairs.make_keys.Statement.{statement}
 use Rattle.single.proofs.pairs.make_keys.Tie as tie
 

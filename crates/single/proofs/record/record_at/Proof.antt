@@ -21,11 +21,11 @@ length-is c = c .record-length .ensures ∙ ap lengthFor (c .before .get-u64 .en
 returns : tie.Need-returns
 returns c =
     let a = c .before .before .before .before .before .args in
-    let over : length (now (a .l)) < a .at + c .before .before .record-length .result = leb-false _ _ (sym (c .before .has-part .ensures) ∙ not-true _ (c .if1 .taken)) in
+    let over : length (now (a .l)) < a .at + c .before .before .record-length .result = leb-false _ _ (sym (c .before .has-room .ensures) ∙ not-true _ (c .if1 .taken)) in
     sym (record-at-short (a .limit) (now (a .l)) (a .at) (omega (arith, length-is (c .before .before))))
 
 there : (c : tie.Else1) → let a = c .before .before .before .before .before .args in a .at + c .before .before .record-length .result ≤ length (now (a .l))
-there c = leb-true _ _ (sym (c .before .has-part .ensures) ∙ not-false _ (c .if1 .left))
+there c = leb-true _ _ (sym (c .before .has-room .ensures) ∙ not-false _ (c .if1 .left))
 
 -- the part that was tested
 tested : (c : tie.After-record-ok) → let a = c .before .before .before .before .before .before .before .args in c .record-ok .result ≡ recordOk (a .limit) (recordPart (now (a .l)) (a .at))

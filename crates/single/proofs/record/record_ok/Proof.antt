@@ -7,7 +7,7 @@ use native.Mathlib.Omega.{arith}
 use borrow.Author.Needs.{needs}
 use borrow.Author.Tests.{eq-eqb, ne-eqb, le-leb, lt-leb}
 use denote.Ref.{now}
-use lib.ListN.{length, drop}
+use lib.ListN.{drop}
 use Rattle.words.specs.declared.Tree.{Tree}
 use Rattle.words.specs.Height.{heightNumber, treeFor}
 use Rattle.words.specs.Bytes.{field}

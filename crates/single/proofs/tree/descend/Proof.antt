@@ -25,7 +25,7 @@ loop-again : tie.Need-loop-again Inv-loop μ-loop
 loop-again c =
     let a = c .before .before .before .before .before .before .before .args in
     let l = c .before .before .before .before .before .loop in
-    (search needs, cc (descend-next (hashBy (a .h)) (a .y) (a .t2 .lows) (a .t2 .highs) (l .i) (a .t2 .count) (l .s) (search needs)))
+    (search needs, rw (c .step .ensures, c .before .bit .ensures) (sym (descend-next (hashBy (a .h)) (a .y) (a .t2 .lows) (a .t2 .highs) (l .i) (a .t2 .count) (l .s) (search needs)) ∙ l .inv .1))
 
 returns : tie.Need-returns Inv-loop μ-loop
 returns c =

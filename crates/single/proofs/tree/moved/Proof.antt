@@ -4,7 +4,8 @@ use Rattle.single.proofs.tree.moved.Statement.{statement}
 use Rattle.single.proofs.tree.moved.Tie as tie
 
 returns : tie.Need-returns
-returns c = cc
+returns c =
+    rw (c .xor2 .ensures, c .before .when2 .ensures, c .before .before .is-odd .ensures, c .before .before .before .xor .ensures, c .before .before .before .before .when .ensures)
 
 pub moved-spec : {M : Type 1} → statement M
 moved-spec =

@@ -6,7 +6,8 @@ use Rattle.single.proofs.tree.share_of.Tie as tie
 
 returns : tie.Need-returns
 unfolding worth
-returns c = cc
+returns c =
+    rw (c .pick .ensures, c .before .negated .ensures, c .before .before .value .ensures, c .before .before .before .last-level .ensures, c .before .before .before .before .before .pick-bit .ensures)
 
 pub share-of-spec : {M : Type 1} → statement M
 share-of-spec =

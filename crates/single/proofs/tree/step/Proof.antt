@@ -6,7 +6,7 @@ use Rattle.single.proofs.tree.step.Tie as tie
 
 returns : tie.Need-returns
 unfolding rule.step
-returns c = cc
+returns c = rw (c .moved .ensures, c .before .hash .ensures)
 
 pub step-spec : {M : Type 1} → statement M
 step-spec = tie.close (tie.spec (λ c κs. search needs) (λ c κs. search needs) returns)
