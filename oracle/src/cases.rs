@@ -1291,7 +1291,7 @@ fn differences(r: &mut Runner) {
     make(3, 1, &[0, 1], &[1, 1]);
     make(5, 2, &[4, 4], &[1, 2]);
     make(5, 2, &[5], &[1]);
-    make(5, 2, &[3, 2], &[1, 2]);
+    make(5, 2, &[4, 3], &[1, 2]);
     make(5, 65_536, &[4], &[1]);
     let made = make(1, 1, &[0], &[7]);
     r.call(Call::Bucket { hash_key: [1; 16], buckets: 65_536, item: 0 });

@@ -9,10 +9,14 @@ use crate::random::Random;
 
 /// The first line's length, with its line feed.
 pub const HEAD: usize = 256;
-/// What every byte of every lent slice is before a call.
+/// The most bytes of a list: what the replaying programs read.
+pub const LARGEST: usize = 65_536;
+/// What every byte of a key buffer is before a call.
 pub const FILL: u8 = 0xa5;
-/// The same as an element.
+/// The same as an element: of an output or a table.
 pub const FILLED: u64 = 0xa5a5_a5a5_a5a5_a5a5;
+/// What every element of scratch is, so that what is copied out of it shows.
+pub const SCRATCH: u64 = 0x5a5a_5a5a_5a5a_5a5a;
 
 /// The kinds of records.
 pub mod kind {
@@ -38,9 +42,14 @@ pub mod how {
     pub const RECORD: u64 = 8;
 }
 
-/// A slice of `count` elements as it is before a call.
+/// An output or a table of `count` elements as it is before a call.
 pub fn room(count: u64) -> Vec<u64> {
     vec![FILLED; count as usize]
+}
+
+/// Scratch of `count` elements as it is before a call.
+pub fn work(count: u64) -> Vec<u64> {
+    vec![SCRATCH; count as usize]
 }
 
 /// A buffer of `count` bytes as it is before a call.
@@ -357,7 +366,7 @@ impl List {
             let key = key.clone();
             let call = match multi {
                 false => Call::SingleAt { key, index },
-                true => Call::MultiAt { key, index, scratch: room(at_scratch) },
+                true => Call::MultiAt { key, index, scratch: work(at_scratch) },
             };
             let after = match ways & how::AT {
                 0 => self.oracle.expect(&call).expect("the oracle agrees"),
@@ -405,7 +414,7 @@ fn whole_calls(
 ) -> Vec<(u64, Call)> {
     let mut list = vec![];
     if ways & how::DOMAIN != 0 {
-        let (key, scratch, out) = (key.to_vec(), room(scratch), room(out));
+        let (key, scratch, out) = (key.to_vec(), work(scratch), room(out));
         let call = match multi {
             false => Call::SingleDomain { key, scratch, out },
             true => Call::MultiDomain { key, scratch, out },
@@ -413,7 +422,7 @@ fn whole_calls(
         list.push((how::DOMAIN, call));
     }
     if ways & how::ADD != 0 {
-        let (key, scratch, table) = (key.to_vec(), room(scratch), room(domain));
+        let (key, scratch, table) = (key.to_vec(), work(scratch), room(domain));
         let call = match multi {
             false => Call::SingleAdd { key, scratch, table },
             true => Call::MultiAdd { key, scratch, table },
@@ -453,7 +462,7 @@ impl Fields<'_> {
 }
 
 fn zeroed(count: u64, length: u64) -> Vec<u64> {
-    let mut scratch = room(length);
+    let mut scratch = work(length);
     scratch[..count as usize].fill(0);
     scratch
 }
@@ -508,7 +517,7 @@ fn calls(kind: u64, f: &mut Fields, pair: &mut Vec<Vec<u8>>) -> Vec<(Call, After
             if number == 0 {
                 *pair = made;
             }
-            let scratch = room(length);
+            let scratch = work(length);
             let call = Call::MultiMake {
                 domain,
                 buckets,
@@ -530,7 +539,7 @@ fn calls(kind: u64, f: &mut Fields, pair: &mut Vec<Vec<u8>>) -> Vec<(Call, After
             let key = f.bytes(length);
             let (share, part) = (vec![answer[0]], answer);
             let scratch_after = zeroed(zeros, scratch);
-            let (scratch, table) = (room(scratch), room(out));
+            let (scratch, table) = (work(scratch), room(out));
             let whole = vec![scratch_after.clone(), table.clone()];
             let (call, answer, cells) = match (kind, way) {
                 (kind::SINGLE_READ, how::AT) => (Call::SingleAt { key, index }, share, vec![]),
@@ -552,7 +561,7 @@ fn calls(kind: u64, f: &mut Fields, pair: &mut Vec<Vec<u8>>) -> Vec<(Call, After
             let (number, answer, written) = (f.next(), vec![f.next()], f.next());
             let hash_keys = f.array();
             let (points, front) = (f.list(points), f.list(written));
-            let scratch = room(length);
+            let scratch = work(length);
             let cells = vec![in_front(scratch.clone(), &front)];
             let call = Call::Place { domain, buckets, hash_keys, points, scratch };
             vec![(call, After { number, answer, cells, bytes: vec![] })]
@@ -586,7 +595,7 @@ fn cell_calls(kind: u64, f: &mut Fields, pair: &[Vec<u8>]) -> Vec<(Call, After)>
             let (call, cells) = match multi {
                 false => (Call::SingleAt { key: key.clone(), index }, vec![]),
                 true => (
-                    Call::MultiAt { key: key.clone(), index, scratch: room(at_scratch) },
+                    Call::MultiAt { key: key.clone(), index, scratch: work(at_scratch) },
                     vec![zeroed(at_zeroed, at_scratch)],
                 ),
             };

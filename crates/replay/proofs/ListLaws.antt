@@ -1,8 +1,9 @@
 -- Laws of what stands in a list, of what is wanted, and of the account: each definition by its tests.
 --     part       part-none, part-span
 --     field      field-there, field-none
---     wanted     getD-inside, wanted-field, wanted-filled
+--     wanted     getD-inside, wanted-field, wanted-kept
 --     account    differing-first, differing-again, valued-same, valued-other
+--     kind       tallied-same, tallied-other
 -- Assumes nothing.
 use mathlib.Core.Path.{_≡_, refl}
 use mathlib.Core.Bool.{true, false}
@@ -13,9 +14,10 @@ use native.Mathlib.Omega.{arith}
 use borrow.Author.Tests.{lt-ltb, le-ltb, le-leb, lt-leb, eq-eqb, ne-eqb}
 use lib.ListN.{length, getD, take, drop}
 use Rattle.words.specs.Bytes as bytes
-use Rattle.words.specs.Ring.{add}
+use Rattle.words.specs.Ring.{add, sub}
 use Rattle.replay.specs.declared.Account.{Account}
-use Rattle.replay.specs.Lists.{part, field, wantedCell, differing, valued}
+use Rattle.replay.specs.declared.Tally.{Tally}
+use Rattle.replay.specs.Lists.{part, field, wantedCell, differing, valued, tallied}
 
 -- ---- part
 
@@ -47,13 +49,13 @@ getD-inside [] i d e h = let z : ⊥ = omega arith in absurd z
 getD-inside (x ∷ xs) zero d e h = refl
 getD-inside (x ∷ xs) (suc i) d e h = getD-inside xs i d e (le-of-suc-le-suc h)
 
-pub wanted-field : (f : List ℕ) (n base i : ℕ) → i < n → add 64 base (field f i) ≡ wantedCell f n base i
+pub wanted-field : (f : List ℕ) (n base kept i : ℕ) → i < n → add 64 base (field f i) ≡ wantedCell f n base kept i
 unfolding wantedCell
-wanted-field f n base i h = rw (lt-ltb i n h)
+wanted-field f n base kept i h = rw (lt-ltb i n h)
 
-pub wanted-filled : (f : List ℕ) (n base i : ℕ) → n ≤ i → 0xa5a5a5a5a5a5a5a5 ≡ wantedCell f n base i
+pub wanted-kept : (f : List ℕ) (n base kept i : ℕ) → n ≤ i → kept ≡ wantedCell f n base kept i
 unfolding wantedCell
-wanted-filled f n base i h = rw (le-ltb i n h)
+wanted-kept f n base kept i h = rw (le-ltb i n h)
 
 -- ---- the account
 
@@ -73,3 +75,19 @@ valued-same a wanted given e = rw (eq-eqb wanted given e)
 pub valued-other : (a : Account) (wanted given : ℕ) → (wanted ≡ given → ⊥) → differing a ≡ valued a wanted given
 unfolding valued
 valued-other a wanted given e = rw (ne-eqb wanted given e)
+
+-- ---- the account of one kind
+
+pub tallied-same : (t : Tally) (k : ℕ) (a b : Account) → b .kind ≡ k
+    → record {
+      records = add 64 (t .records) (sub 64 (b .records) (a .records));
+      calls = add 64 (t .calls) (sub 64 (b .calls) (a .calls));
+      disagree = add 64 (t .disagree) (sub 64 (b .disagree) (a .disagree));
+    }
+    ≡ tallied t k a b
+unfolding tallied
+tallied-same t k a b e = rw (eq-eqb (b .kind) k e)
+
+pub tallied-other : (t : Tally) (k : ℕ) (a b : Account) → (b .kind ≡ k → ⊥) → t ≡ tallied t k a b
+unfolding tallied
+tallied-other t k a b e = rw (ne-eqb (b .kind) k e)

@@ -2,8 +2,9 @@
 -- call, and the account of a replay.
 --     part l a n             the n bytes of l from a on; none where they are not all there
 --     field f i              field i of a record, eight bytes each; 0 where there is none
---     wantedCell f n b i     element i of a slice whose first n are b plus a field, modulo 2 ^ 64, the others as they were
+--     wantedCell f n b o i   element i of a slice whose first n are b plus a field, modulo 2 ^ 64, the others o, as they were
 --     nothing, recorded, called, refused, differing, valued     the account at first, and after each thing
+--     untallied, tallied     the account of one kind at first, and after a record
 --     Compared               what comparing a slice shows: where no disagreement is noted, every element is what is wanted
 -- Assumes nothing.
 use mathlib.Core.Path.{_≡_}
@@ -14,8 +15,9 @@ use Prim.Native.Nat.{ℕ, _+_, _*_, _/_, _≤_, _<_}
 use lib.Dec.{leb, ltb, eqb}
 use lib.ListN.{length, getD, take, drop}
 use Rattle.words.specs.Bytes as bytes
-use Rattle.words.specs.Ring.{add}
+use Rattle.words.specs.Ring.{add, sub}
 use Rattle.replay.specs.declared.Account.{Account}
+use Rattle.replay.specs.declared.Tally.{Tally}
 
 -- ---- what stands in a list
 
@@ -27,8 +29,8 @@ field f i = cond (ltb i (length f / 8)) (bytes.field 8 f (8 * i)) 0
 
 -- ---- what is wanted
 
-unfoldable pub wantedCell : List ℕ → ℕ → ℕ → ℕ → ℕ
-wantedCell f n base i = cond (ltb i n) (add 64 base (field f i)) 0xa5a5a5a5a5a5a5a5
+unfoldable pub wantedCell : List ℕ → ℕ → ℕ → ℕ → ℕ → ℕ
+wantedCell f n base kept i = cond (ltb i n) (add 64 base (field f i)) kept
 
 -- ---- the account
 
@@ -60,3 +62,19 @@ valued a wanted given = cond (eqb wanted given) a (differing a)
 abbrev pub Compared : Account → Account → ℕ → List ℕ → (ℕ → ℕ) → Type 0
 Compared a r n given wanted =
     (r ≡ differing a) ⊎ ((r ≡ a) × (n ≤ length given) × ((k : ℕ) → k < length given → getD given k 0 ≡ wanted k))
+
+-- ---- the account of one kind
+
+abbrev pub untallied : Tally
+untallied = record { records = 0; calls = 0; disagree = 0 }
+
+-- what the account gained by a record counts for the record's kind
+unfoldable pub tallied : Tally → ℕ → Account → Account → Tally
+tallied t k a b =
+    cond (eqb (b .kind) k)
+    (record {
+      records = add 64 (t .records) (sub 64 (b .records) (a .records));
+      calls = add 64 (t .calls) (sub 64 (b .calls) (a .calls));
+      disagree = add 64 (t .disagree) (sub 64 (b .disagree) (a .disagree));
+    })
+    t

@@ -10,10 +10,13 @@ ghost use Rattle.replay.specs.Lists as spec;
 use words::bytes;
 use words::sums;
 
-// What every byte and every element of a lent slice is before a call.
+// What every byte of a key buffer is before a call, every element of an output or a table, and every element of scratch. Scratch
+// differs from the others, so that what is copied out of it shows.
 pub const BYTE: u8 = 0xa5;
 
 pub const CELL: u64 = 0xa5a5_a5a5_a5a5_a5a5;
+
+pub const SCRATCH: u64 = 0x5a5a_5a5a_5a5a_5a5a;
 
 // ---- finding and reading
 
@@ -113,13 +116,13 @@ fn wide(b: u8) -> u64 {
 }
 
 // Element i of a lent slice: base plus a field among the first n, or as it was.
-fn wanted_cell(fields: &[u8], n: usize, base: u64, i: usize) -> u64
-    ensures { λ r. ⌜ r ≡ spec.wantedCell (now (fields .entry)) n base i ⌝ }
+fn wanted_cell(fields: &[u8], n: usize, base: u64, kept: u64, i: usize) -> u64
+    ensures { λ r. ⌜ r ≡ spec.wantedCell (now (fields .entry)) n base kept i ⌝ }
 {
     if i < n {
         return sums::plus(base, field(fields, i));
     }
-    CELL
+    kept
 }
 
 // The first byte that is not what is wanted; the length where there is none.
@@ -140,13 +143,13 @@ fn other_byte(given: &[u8], wanted: &[u8]) -> usize
 }
 
 // The first element that is not what is wanted; the length where there is none.
-fn other_cell(given: &[u64], fields: &[u8], n: usize, base: u64) -> usize
+fn other_cell(given: &[u64], fields: &[u8], n: usize, base: u64, kept: u64) -> usize
     ensures within { λ r. ⌜ r ≤ length (now (given .entry)) ⌝ }
-    ensures before { λ r. ⌜ ((k : ℕ) → k < r → getD (now (given .entry)) k 0 ≡ spec.wantedCell (now (fields .entry)) n base k) ⌝ }
+    ensures before { λ r. ⌜ ((k : ℕ) → k < r → getD (now (given .entry)) k 0 ≡ spec.wantedCell (now (fields .entry)) n base kept k) ⌝ }
 {
     let mut i: usize = 0;
     while i < given.len() {
-        let w = wanted_cell(fields, n, base, i);
+        let w = wanted_cell(fields, n, base, kept, i);
         let g = given[i];
         if g != w {
             return i;
@@ -157,6 +160,15 @@ fn other_cell(given: &[u64], fields: &[u8], n: usize, base: u64) -> usize
 }
 
 // ---- the account
+
+fn counts(records: u64, calls: u64, disagree: u64) {
+    io::print_decimal(1, records);
+    io::write_all(1, b" records, ");
+    io::print_decimal(1, calls);
+    io::write_all(1, b" calls, ");
+    io::print_decimal(1, disagree);
+    io::write_all(1, b" disagree\n");
+}
 
 // What a replay has come to: the records and calls so far, the calls that disagree, the kind of the record at hand, whether
 // the call at hand agrees so far, and whether the list was found malformed.
@@ -323,18 +335,40 @@ impl Account {
     }
 
     // A slice of elements after the call at hand: base plus the first n fields, and behind them as it was.
-    pub fn cells(self, what: &[u8], fields: &[u8], n: usize, base: u64, given: &[u64]) -> Account
-        ensures { λ r. ⌜ spec.Compared self r n (now (given .entry)) (spec.wantedCell (now (fields .entry)) n base) ⌝ }
+    fn elements(
+        self,
+        what: &[u8],
+        fields: &[u8],
+        n: usize,
+        base: u64,
+        kept: u64,
+        given: &[u64],
+    ) -> Account
+        ensures { λ r. ⌜ spec.Compared self r n (now (given .entry)) (spec.wantedCell (now (fields .entry)) n base kept) ⌝ }
     {
-        let i = other_cell(given, fields, n, base);
+        let i = other_cell(given, fields, n, base, kept);
         if i < given.len() {
             let g = given[i];
-            return self.differs(what, i as u64, wanted_cell(fields, n, base, i), g);
+            return self.differs(what, i as u64, wanted_cell(fields, n, base, kept, i), g);
         }
         if given.len() < n {
             return self.differs(what, given.len() as u64, n as u64, given.len() as u64);
         }
         self
+    }
+
+    // An output or a table after the call at hand: base plus the first n fields, and behind them as it was.
+    pub fn cells(self, what: &[u8], fields: &[u8], n: usize, base: u64, given: &[u64]) -> Account
+        ensures { λ r. ⌜ spec.Compared self r n (now (given .entry)) (spec.wantedCell (now (fields .entry)) n base 0xa5a5a5a5a5a5a5a5) ⌝ }
+    {
+        self.elements(what, fields, n, base, CELL, given)
+    }
+
+    // Scratch after the call at hand: the first n fields, 0 where there are none, and behind them as it was.
+    pub fn scratch(self, fields: &[u8], n: usize, given: &[u64]) -> Account
+        ensures { λ r. ⌜ spec.Compared self r n (now (given .entry)) (spec.wantedCell (now (fields .entry)) n 0 0x5a5a5a5a5a5a5a5a) ⌝ }
+    {
+        self.elements(b"scratch", fields, n, 0, SCRATCH, given)
     }
 
     // The last line, where the list could be read to its end; the answer is how many calls disagree.
@@ -344,12 +378,52 @@ impl Account {
         if self.malformed {
             return self.disagree;
         }
-        io::print_decimal(1, self.records);
-        io::write_all(1, b" records, ");
-        io::print_decimal(1, self.calls);
-        io::write_all(1, b" calls, ");
-        io::print_decimal(1, self.disagree);
-        io::write_all(1, b" disagree\n");
+        counts(self.records, self.calls, self.disagree);
+        self.disagree
+    }
+}
+
+// ---- the account of one kind
+
+// How many records of one kind were replayed, how many calls they made, and how many of these disagree.
+pub struct Tally {
+    pub records: u64,
+    pub calls: u64,
+    pub disagree: u64,
+}
+
+impl Tally {
+    pub fn new() -> Tally
+        ensures { λ r. ⌜ r ≡ spec.untallied ⌝ }
+    {
+        Tally {
+            records: 0,
+            calls: 0,
+            disagree: 0,
+        }
+    }
+
+    // With what the account has gained by the record at hand, where that is of this kind.
+    pub fn gained(self, kind: u64, before: Account, after: Account) -> Tally
+        ensures { λ r. ⌜ r ≡ spec.tallied self kind before after ⌝ }
+    {
+        if after.kind == kind {
+            return Tally {
+                records: sums::plus(self.records, sums::minus(after.records, before.records)),
+                calls: sums::plus(self.calls, sums::minus(after.calls, before.calls)),
+                disagree: sums::plus(self.disagree, sums::minus(after.disagree, before.disagree)),
+            };
+        }
+        self
+    }
+
+    // A line with the kind's name and its counts; the answer is how many calls disagree.
+    pub fn print(self, name: &[u8]) -> u64
+        ensures { λ r. ⌜ r ≡ self .disagree ⌝ }
+    {
+        io::write_all(1, name);
+        io::write_all(1, b": ");
+        counts(self.records, self.calls, self.disagree);
         self.disagree
     }
 }

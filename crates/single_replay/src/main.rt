@@ -1,11 +1,13 @@
 // Replays the oracle's list of single keys: every call is made again, and its answers and every element of every lent slice are
-// compared with what the list has. Printed are how the list was made, the first disagreement if there is one, and the counts.
+// compared with what the list has. Printed are how the list was made, the first disagreement if there is one, and the counts of
+// each kind and of all.
 // The format is in oracle/README.md, "The replay lists"; here are the kinds 1 to 5.
 ghost use Prim.Native.Nat.{_≤_};
 ghost use lib.ListN.{length};
 use cipher::TreeHash;
 use replay::Account;
 use replay::Record;
+use replay::Tally;
 use single::calls;
 use single::calls::Generated;
 use words::Word;
@@ -164,13 +166,13 @@ fn domain(a: Account, how: u64, key: &[u8], w: Whole, shares: &[u8]) -> Account 
     if 128 < m {
         return a.refused();
     }
-    let mut scratch = [replay::CELL; 128];
+    let mut scratch = [replay::SCRATCH; 128];
     let mut out = [replay::CELL; 128];
     let number = domain_front(key, &mut scratch, n, &mut out, m);
     let none = replay::part(key, 0, 0);
     let b = a.next_call();
     let b = b.value(b"number", w.number, number);
-    let b = b.cells(b"scratch", none, w.zeroed as usize, 0, &scratch);
+    let b = b.scratch(none, w.zeroed as usize, &scratch);
     b.cells(b"output", shares, shares.len() / 8, 0, &out)
 }
 
@@ -194,13 +196,13 @@ fn add(a: Account, how: u64, key: &[u8], w: Whole, shares: &[u8]) -> Account {
     if 128 < m {
         return a.refused();
     }
-    let mut scratch = [replay::CELL; 128];
+    let mut scratch = [replay::SCRATCH; 128];
     let mut table = [replay::CELL; 128];
     let number = add_front(key, &mut scratch, n, &mut table, m);
     let none = replay::part(key, 0, 0);
     let b = a.next_call();
     let b = b.value(b"number", w.number, number);
-    let b = b.cells(b"scratch", none, w.zeroed as usize, 0, &scratch);
+    let b = b.scratch(none, w.zeroed as usize, &scratch);
     b.cells(b"table", shares, shares.len() / 8, replay::CELL, &table)
 }
 
@@ -296,11 +298,53 @@ fn tree_hash(a: Account, f: &[u8]) -> Account {
     b.value(b"high half", replay::field(f, 3), y.hi)
 }
 
+// ---- the counts of each kind
+
+struct Kinds {
+    height: Tally,
+    tree: Tally,
+    make: Tally,
+    cells: Tally,
+    read: Tally,
+}
+
+impl Kinds {
+    fn new() -> Kinds {
+        Kinds {
+            height: Tally::new(),
+            tree: Tally::new(),
+            make: Tally::new(),
+            cells: Tally::new(),
+            read: Tally::new(),
+        }
+    }
+
+    // With what the account has gained by the record at hand.
+    fn gained(self, before: Account, after: Account) -> Kinds {
+        Kinds {
+            height: self.height.gained(4, before, after),
+            tree: self.tree.gained(5, before, after),
+            make: self.make.gained(1, before, after),
+            cells: self.cells.gained(2, before, after),
+            read: self.read.gained(3, before, after),
+        }
+    }
+
+    fn print(self) {
+        self.height.print(b"kind 4, height");
+        self.tree.print(b"kind 5, tree hash");
+        self.make.print(b"kind 1, make");
+        self.cells.print(b"kind 2, cells of a pair");
+        self.read.print(b"kind 3, one reading");
+    }
+}
+
 // ---- the walk through a list
 
 // Where it has come to, and the last record that made a pair.
 struct Run {
     account: Account,
+    kinds: Kinds,
     at: usize,
     made: Record,
     done: bool,
@@ -328,9 +372,12 @@ fn last_made(before: Record, r: Record, f: &[u8]) -> Record {
     r
 }
 
-fn ended(account: Account, made: Record) -> Run {
+fn ended(run: Run, account: Account) -> Run {
+    let kinds = run.kinds;
+    let made = run.made;
     Run {
         account,
+        kinds,
         at: 0,
         made,
         done: true,
@@ -339,6 +386,7 @@ fn ended(account: Account, made: Record) -> Run {
 
 fn step(list: &[u8], run: Run) -> Run {
     let made = run.made;
+    let kinds = run.kinds;
     let a = run.account;
     if run.done {
         return run;
@@ -346,10 +394,10 @@ fn step(list: &[u8], run: Run) -> Run {
     let r = replay::record_at(list, run.at);
     let next = r.at + r.length;
     if !r.whole {
-        return ended(a.refused(), made);
+        return ended(run, a.refused());
     }
     if r.kind == 0 {
-        return ended(a.last(list, r), made);
+        return ended(run, a.last(list, r));
     }
     let f = replay::part(list, r.at, r.length);
     let pair = replay::part(list, made.at, made.length);
@@ -357,6 +405,7 @@ fn step(list: &[u8], run: Run) -> Run {
     let kept = last_made(made, r, f);
     Run {
         account: b,
+        kinds: kinds.gained(a, b),
         at: next,
         made: kept,
         done: b.malformed,
@@ -367,6 +416,7 @@ fn replay_list(list: &[u8]) {
     io::write_all(1, replay::part(list, 0, 256));
     let mut run = Run {
         account: Account::new(),
+        kinds: Kinds::new(),
         at: 256,
         made: replay::record_at(list, list.len()),
         done: false,
@@ -376,6 +426,8 @@ fn replay_list(list: &[u8]) {
         run = step(list, run);
         turns -= 1;
     }
+    let kinds = run.kinds;
+    kinds.print();
     let a = run.account;
     a.close();
 }

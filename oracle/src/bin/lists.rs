@@ -10,7 +10,7 @@
 
 use oracle::call::{refusal, After, Call};
 use oracle::image;
-use oracle::list::{self, buffer, how, room, List};
+use oracle::list::{self, buffer, how, room, work, List};
 use oracle::own::{Fault, Own, FAULTS};
 use oracle::random::Random;
 use oracle::source::{self, Soft};
@@ -49,6 +49,7 @@ fn write(kind: &str, seed: u64, date: &str, file: &str) {
         extent.records, extent.calls
     );
     let bytes = list.file(&head);
+    assert!(bytes.len() <= list::LARGEST, "the replaying programs hold {} bytes", list::LARGEST);
     std::fs::write(file, &bytes).unwrap_or_else(|e| panic!("{file}: {e}"));
     println!("{head}\n{} bytes, {extent:#?}", bytes.len());
 }
@@ -202,7 +203,7 @@ fn put(image: &mut [u8], at: usize, length: usize, number: u64) {
 fn refused_readings(list: &mut List, key: Vec<u8>, size: u64) {
     let at = Call::SingleAt { key: key.clone(), index: 0 };
     list.call(&at);
-    let (scratch, out) = (room(2 * size), room(size));
+    let (scratch, out) = (work(2 * size), room(size));
     list.call(&Call::SingleDomain { key: key.clone(), scratch: scratch.clone(), out: out.clone() });
     list.call(&Call::SingleAdd { key, scratch, table: out });
 }
@@ -214,11 +215,11 @@ fn damaged_single(list: &mut List, random: &mut Random) {
         list.call(&Call::SingleAt { key: key.clone(), index });
     }
     for (scratch, out) in [(5, 3), (0, 0), (6, 2), (5, 2)] {
-        let call = Call::SingleDomain { key: key.clone(), scratch: room(scratch), out: room(out) };
+        let call = Call::SingleDomain { key: key.clone(), scratch: work(scratch), out: room(out) };
         list.call(&call);
     }
     for (scratch, table) in [(5, 3), (6, 2), (6, 4), (5, 4), (0, 3)] {
-        let call = Call::SingleAdd { key: key.clone(), scratch: room(scratch), table: room(table) };
+        let call = Call::SingleAdd { key: key.clone(), scratch: work(scratch), table: room(table) };
         list.call(&call);
     }
     // each rule of the layout broken alone
@@ -335,7 +336,7 @@ impl Posting {
             points: self.points.clone(),
             values: self.values.clone(),
             words: random.numbers(words),
-            scratch: room(scratch),
+            scratch: work(scratch),
             key0: buffer(rooms[0]),
             key1: buffer(rooms[1]),
         }
@@ -354,7 +355,7 @@ impl Posting {
             buckets: self.buckets,
             hash_keys: self.hash_keys,
             points: self.points.clone(),
-            scratch: room(self.buckets + self.points.len() as u64 + more),
+            scratch: work(self.buckets + self.points.len() as u64 + more),
         });
     }
 
@@ -369,8 +370,8 @@ impl Posting {
     }
 }
 
-/// How a cell's three buckets coincide: how many different ones it has.
-fn different(posting: &Posting, item: u64) -> usize {
+/// The different buckets of a cell.
+fn buckets_of(posting: &Posting, item: u64) -> Vec<u16> {
     use oracle::source::Source;
     let mut of: Vec<u16> = posting
         .split()
@@ -379,7 +380,7 @@ fn different(posting: &Posting, item: u64) -> usize {
         .collect();
     of.sort();
     of.dedup();
-    of.len()
+    of
 }
 
 fn multi(list: &mut List, random: &mut Random) {
@@ -399,7 +400,8 @@ fn multi(list: &mut List, random: &mut Random) {
     for _ in 0..4 {
         list.call(&Call::Ccr { key: random.array(), x: [random.next(), random.next()] });
     }
-    let collides = |p: &Posting, many: usize| p.points.iter().any(|&x| different(p, x) == many);
+    let collides =
+        |p: &Posting, many: usize| p.points.iter().any(|&x| buckets_of(p, x).len() == many);
     // one cell in one bucket; a point whose functions name two buckets, and one; an empty bucket; a
     // bucket of one entry; buckets that no point holds; evictions
     let postings = [
@@ -435,6 +437,8 @@ fn multi(list: &mut List, random: &mut Random) {
     one_more_would_fit(random).place(list, 1);
     refused_multi(list, random);
     damaged_multi(list, random);
+    smallest_makings(list, random);
+    smallest_readings(list, random);
 }
 
 /// A posting whose walk ends, though not within one eviction less for each input.
@@ -451,7 +455,7 @@ fn one_more_would_fit(random: &mut Random) -> Posting {
 
 fn placed_by(posting: &Posting, face: &Own) -> u64 {
     use oracle::face::Face;
-    let mut scratch = room(posting.buckets + posting.points.len() as u64);
+    let mut scratch = work(posting.buckets + posting.points.len() as u64);
     let (domain, buckets) = (posting.domain, posting.buckets);
     face.place(domain, buckets, &posting.hash_keys, &posting.points, &mut scratch, &mut 0)
 }
@@ -519,7 +523,7 @@ fn refused_multi(list: &mut List, random: &mut Random) {
         (last, 3, vec![last], 4),
         (last + 1, 3, vec![1], 4),
     ] {
-        let (hash_keys, scratch) = (good.hash_keys, room(scratch));
+        let (hash_keys, scratch) = (good.hash_keys, work(scratch));
         list.call(&Call::Place { domain, buckets, hash_keys, points, scratch });
     }
 }
@@ -537,14 +541,14 @@ fn damaged_multi(list: &mut List, random: &mut Random) {
         list.call(&Call::MultiRecord { key: key.clone(), bucket });
     }
     for (index, scratch) in [(2, 4), (u64::MAX, 4), (0, 3), (2, 3), (0, 0)] {
-        list.call(&Call::MultiAt { key: key.clone(), index, scratch: room(scratch) });
+        list.call(&Call::MultiAt { key: key.clone(), index, scratch: work(scratch) });
     }
     for (scratch, out) in [(19, 2), (20, 1), (19, 1), (0, 0)] {
-        let call = Call::MultiDomain { key: key.clone(), scratch: room(scratch), out: room(out) };
+        let call = Call::MultiDomain { key: key.clone(), scratch: work(scratch), out: room(out) };
         list.call(&call);
     }
     for (scratch, table) in [(19, 2), (20, 1), (20, 3), (19, 3)] {
-        let call = Call::MultiAdd { key: key.clone(), scratch: room(scratch), table: room(table) };
+        let call = Call::MultiAdd { key: key.clone(), scratch: work(scratch), table: room(table) };
         list.call(&call);
     }
     let (first, one) = (parts.iter().position(|p| p.0 != 0).expect("a record"), {
@@ -609,19 +613,104 @@ fn damaged_multi(list: &mut List, random: &mut Random) {
     put(&mut image, 0, 4, 0);
     image[parts[3].0 + 24] |= 1;
     for index in 0..2 {
-        list.call(&Call::MultiAt { key: image.clone(), index, scratch: room(5) });
+        list.call(&Call::MultiAt { key: image.clone(), index, scratch: work(5) });
     }
+}
+
+// ---- the smallest inputs of docs/DIFFERENCES.md, in its order
+
+/// Makings that the Rust does not refuse, or refuses by a panic.
+fn smallest_makings(list: &mut List, random: &mut Random) {
+    let hash_keys: [u8; 48] = random.array();
+    for (domain, buckets, points, values) in [
+        (1, 1, &[][..], &[][..]),
+        (0, 1, &[], &[]),
+        (3, 1, &[0, 1], &[1, 2]),
+        (5, 2, &[4], &[1, 2]),
+        (5, 2, &[4, 4], &[1, 2]),
+        (5, 2, &[4, 3], &[1, 2]),
+        (5, 2, &[5], &[1]),
+        (5, 65_536, &[4], &[1]),
+        (1 << 32, 1, &[0], &[1]),
+        (u32::MAX as u64, 1, &[], &[]),
+    ] {
+        let (points, values) = (points.to_vec(), values.to_vec());
+        let posting = Posting { domain, buckets, hash_keys, points, values };
+        // enough of everything if all else were right; too little scratch where a mistake would
+        // hash a large domain
+        let scratch = if domain < 6 { 10 } else { 0 };
+        let call = posting.call(random, scratch, 8, [320; 2]);
+        assert_ne!(list.call(&call).number, 0);
+    }
+    // two points, each with all its functions in bucket 0
+    let stuck = Posting::find(random, 3, 2, 2, |p| {
+        p.points == [0, 1] && p.points.iter().all(|&x| buckets_of(p, x) == [0])
+    });
+    stuck.place(list, 0);
+    let (scratch, words, length) = stuck.needs();
+    let call = stuck.call(random, scratch, words, [length; 2]);
+    assert_eq!(list.call(&call).number, refusal::PLACE);
+}
+
+/// Images that the Rust reads, or refuses by a panic.
+fn smallest_readings(list: &mut List, random: &mut Random) {
+    let mut at = |key: &[u8], index, buckets, number| {
+        let call = Call::MultiAt { key: key.to_vec(), index, scratch: work(buckets) };
+        assert_eq!(list.call(&call).number, number);
+    };
+    let key = made_aside(random, 1);
+    at(&key, 0, 1, 0);
+    at(&key, 1, 1, refusal::INDEX);
+    // a record of size 4 for a bucket of 3 entries, and no record for it
+    let mut larger = key.clone();
+    put(&mut larger, 80, 8, 4);
+    at(&larger, 0, 1, refusal::MISMATCH);
+    let mut none = key[..80].to_vec();
+    put(&mut none, 72, 8, 0);
+    at(&none, 0, 1, refusal::MISMATCH);
+    // a record for an empty bucket, and another n
+    let key = made_aside(random, 4);
+    let parts = image::read_multi(&key).expect("just made").1;
+    let empty = parts.iter().position(|p| p.0 == 0).expect("3 entries, 4 buckets");
+    at(&with_record(&key, &parts, empty), 0, 4, refusal::MISMATCH);
+    let mut other = key.clone();
+    put(&mut other, 16, 4, 2);
+    at(&other, 0, 4, 0);
+}
+
+/// Party 0's key over one cell, made outside the list.
+fn made_aside(random: &mut Random, buckets: u64) -> Vec<u8> {
+    let mut aside = List::default();
+    Posting::find(random, 1, buckets, 1, |_| true).make(&mut aside, random, 0);
+    let [key, _] = aside.pair();
+    key
 }
 
 /// A reading of an image over D 2, B 4 that breaks a rule.
 fn refused_multi_reading(list: &mut List, key: Vec<u8>, way: usize) {
     let call = match way % 4 {
-        0 => Call::MultiAt { key, index: 0, scratch: room(4) },
-        1 => Call::MultiDomain { key, scratch: room(20), out: room(2) },
-        2 => Call::MultiAdd { key, scratch: room(20), table: room(2) },
+        0 => Call::MultiAt { key, index: 0, scratch: work(4) },
+        1 => Call::MultiDomain { key, scratch: work(20), out: room(2) },
+        2 => Call::MultiAdd { key, scratch: work(20), table: room(2) },
         _ => Call::MultiRecord { key, bucket: 0 },
     };
     assert_eq!(list.call(&call).number, refusal::KEY);
+}
+
+/// The image with a record of one cell for an empty bucket.
+fn with_record(key: &[u8], parts: &[(usize, usize)], empty: usize) -> Vec<u8> {
+    let begin = parts[empty..].iter().find(|p| p.0 != 0).map_or(key.len(), |p| p.0);
+    let mut image = key.to_vec();
+    let mut record = [0; 56];
+    record[0] = 1;
+    image.splice(begin..begin, record);
+    put(&mut image, 72 + 8 * empty, 8, begin as u64);
+    for (b, part) in parts.iter().enumerate().skip(empty + 1) {
+        if part.0 != 0 {
+            put(&mut image, 72 + 8 * b, 8, part.0 as u64 + 56);
+        }
+    }
+    image
 }
 
 /// Images that keep every rule, and whose records do not fit their buckets.
@@ -654,26 +743,15 @@ fn mismatched(list: &mut List, key: &[u8], posting: &Posting) {
     images.push(image);
     // a record of one cell for the empty bucket
     let empty = sizes.iter().position(|&s| s == 0).expect("an empty bucket");
-    let begin = parts[empty..].iter().find(|p| p.0 != 0).expect("the last has one").0;
-    let mut image = key.to_vec();
-    let mut record = [0; 56];
-    record[0] = 1;
-    image.splice(begin..begin, record);
-    put(&mut image, 72 + 8 * empty, 8, begin as u64);
-    for (b, part) in parts.iter().enumerate().skip(empty + 1) {
-        if part.0 != 0 {
-            put(&mut image, 72 + 8 * b, 8, part.0 as u64 + 56);
-        }
-    }
-    images.push(image);
+    images.push(with_record(key, &parts, empty));
     for key in images {
         let domain = u64::from_le_bytes(key[8..16].try_into().expect("8 bytes"));
         for index in 0..2 {
-            let scratch = room(4 + index);
+            let scratch = work(4 + index);
             let after = list.call(&Call::MultiAt { key: key.clone(), index, scratch });
             assert_eq!(after.number, refusal::MISMATCH);
         }
-        let (scratch, out) = (room(6 * domain + 8), room(domain));
+        let (scratch, out) = (work(6 * domain + 8), room(domain));
         let call =
             Call::MultiDomain { key: key.clone(), scratch: scratch.clone(), out: out.clone() };
         list.call(&call);

@@ -10,10 +10,10 @@ use Rattle.replay.proofs.other_cell.Statement.{statement}
 use Rattle.replay.proofs.other_cell.Tie as tie
 
 abbrev Inv-loop : tie.InvT-loop
-Inv-loop given fields n base i₀ i = (i ≤ length given) × ((k : ℕ) → k < i → getD given k 0 ≡ wantedCell fields n base k)
+Inv-loop given fields n base kept i₀ i = (i ≤ length given) × ((k : ℕ) → k < i → getD given k 0 ≡ wantedCell fields n base kept k)
 
 abbrev μ-loop : tie.MeasureT-loop
-μ-loop given fields n base i₀ i = length given - i
+μ-loop given fields n base kept i₀ i = length given - i
 
 returns : tie.Need-returns Inv-loop μ-loop
 returns c = (search needs, c .before .before .before .before .loop .inv .1)

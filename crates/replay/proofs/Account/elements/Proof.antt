@@ -1,10 +1,10 @@
--- `replay::Account::cells` meets its contract: where no disagreement is noted, the search has passed every index. Assumes nothing.
+-- `replay::Account::elements` meets its contract: where no disagreement is noted, the search has passed every index. Assumes nothing.
 use mathlib.Core.Path.{refl}
 use mathlib.Core.Logic.{inl, inr}
 use native.Mathlib.Omega.{arith}
 use borrow.Author.Needs.{needs}
-use Rattle.replay.proofs.Account.cells.Statement.{statement}
-use Rattle.replay.proofs.Account.cells.Tie as tie
+use Rattle.replay.proofs.Account.elements.Statement.{statement}
+use Rattle.replay.proofs.Account.elements.Tie as tie
 
 returns : tie.Need-returns
 returns c = inl (c .differs .ensures)
@@ -17,8 +17,8 @@ returns-3 c =
     let found = c .before .before .other-cell .ensures in
     inr (refl, omega arith, λ k h. found .1 k (omega (arith, found .0)))
 
-pub cells-spec : {M : Type 1} → statement M
-cells-spec =
+pub elements-spec : {M : Type 1} → statement M
+elements-spec =
     tie.close
     (tie.spec
     (λ c κs. search needs)
