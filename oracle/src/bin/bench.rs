@@ -1,6 +1,7 @@
 //! Times the calls: the Rust with each of its ciphers, and Morgnet where it is linked, on the same
 //! inputs in one run. Microseconds, the least of several runs of the process's processor time; the
-//! Rust's threads are held to one.
+//! Rust's threads are held to one. The columns take turns, three rounds of them, so that what disturbs
+//! the machine for a while disturbs no column in all its turns.
 //!
 //!     bench [SECONDS] [LARGEST]     so long for each number (0.5); domains up to 2^LARGEST (20)
 //!
@@ -18,7 +19,10 @@ use std::num::Wrapping;
 const BUCKETS: u64 = 1783;
 const POINTS: usize = 1000;
 
-/// Microseconds of a call: the least of the runs that fit, and of three at least. A run repeats a short
+/// How often each column has its turn.
+const ROUNDS: usize = 3;
+
+/// Microseconds of a call: the least of the runs that fit, and of two at least. A run repeats a short
 /// call until it takes some 2 milliseconds, since the clock is not exact.
 fn time<T>(seconds: f64, mut call: impl FnMut() -> T) -> f64 {
     let mut run = |times: u64| {
@@ -34,7 +38,7 @@ fn time<T>(seconds: f64, mut call: impl FnMut() -> T) -> f64 {
     }
     let begin = raw::process_time();
     let (mut least, mut runs) = (u64::MAX, 0);
-    while runs < 3 || raw::process_time() - begin < (seconds * 1e9) as u64 {
+    while runs < 2 || raw::process_time() - begin < (seconds * 1e9) as u64 {
         least = least.min(run(times));
         runs += 1;
     }
@@ -232,7 +236,22 @@ fn has_ni() -> bool {
     raw::AesNi::new([0; 16]).is_some()
 }
 
-fn table(names: &[&str], what: &str, columns: [Vec<Option<f64>>; 4]) {
+/// Four columns of numbers, the least of each in so many rounds.
+type Columns = [Vec<Option<f64>>; 4];
+
+fn least(mut round: impl FnMut() -> Columns) -> Columns {
+    let mut columns = round();
+    for _ in 1..ROUNDS {
+        for (column, again) in columns.iter_mut().zip(round()) {
+            for (number, other) in column.iter_mut().zip(again) {
+                *number = number.zip(other).map(|(a, b)| a.min(b));
+            }
+        }
+    }
+    columns
+}
+
+fn table(names: &[&str], what: &str, columns: Columns) {
     let shown = |n: Option<f64>| {
         n.map_or("-".to_string(), |n| match n {
             n if n < 10.0 => format!("{n:.2}"),
@@ -270,33 +289,46 @@ fn main() {
     let mut random = Random::new(5);
     println!("| call | S or D, B | software AES, us | byte-wise, us | AES-NI, us | Morgnet, us | Morgnet / byte-wise | Morgnet / software |");
     println!("|---|---|---:|---:|---:|---:|---:|---:|");
-    let all = |times: Vec<f64>| times.into_iter().map(Some).collect::<Vec<_>>();
     for k in [12, 16, 20].into_iter().filter(|&k| k <= largest) {
-        let case = Single::new(&mut random, 1 << k);
-        let names = ["single: make", "single: one cell", "single: whole domain", "single: adding"];
-        let columns = [
+        single(&Single::new(&mut random, 1 << k), k, seconds / ROUNDS as f64);
+    }
+    for k in [14, 16, 18, 20].into_iter().filter(|&k| k <= largest) {
+        multi(&Multi::new(&mut random, 1 << k), k, seconds / ROUNDS as f64);
+    }
+}
+
+fn all(times: Vec<f64>) -> Vec<Option<f64>> {
+    times.into_iter().map(Some).collect()
+}
+
+fn single(case: &Single, k: u32, seconds: f64) {
+    let names = ["single: make", "single: one cell", "single: whole domain", "single: adding"];
+    let columns = least(|| {
+        [
             all(case.rust::<Soft>(seconds)),
             all(case.rust::<Bytes>(seconds)),
             if has_ni() { all(case.rust::<Ni>(seconds)) } else { vec![None; 4] },
             case.morgnet(seconds),
-        ];
-        table(&names, &format!("2^{k}"), columns);
-    }
-    for k in [14, 16, 18, 20].into_iter().filter(|&k| k <= largest) {
-        let case = Multi::new(&mut random, 1 << k);
-        let names = [
-            "multi: make",
-            "multi: one cell",
-            "multi: whole domain",
-            "multi: adding",
-            "multi: whole domain, hashes kept",
-        ];
-        let columns = [
+        ]
+    });
+    table(&names, &format!("2^{k}"), columns);
+}
+
+fn multi(case: &Multi, k: u32, seconds: f64) {
+    let names = [
+        "multi: make",
+        "multi: one cell",
+        "multi: whole domain",
+        "multi: adding",
+        "multi: whole domain, hashes kept",
+    ];
+    let columns = least(|| {
+        [
             all(case.rust::<Soft>(seconds)),
             all(case.rust::<Bytes>(seconds)),
             if has_ni() { all(case.rust::<Ni>(seconds)) } else { vec![None; 5] },
             case.morgnet(seconds),
-        ];
-        table(&names, &format!("2^{k}, {BUCKETS}, n {POINTS}"), columns);
-    }
+        ]
+    });
+    table(&names, &format!("2^{k}, {BUCKETS}, n {POINTS}"), columns);
 }
