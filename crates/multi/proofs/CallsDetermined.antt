@@ -11,4 +11,7 @@ calls-determined H bucket = record {
   oneCell = λ l x s q r p e. p ∙ sym e;
   allCells = λ l s o q r p e. p ∙ sym e;
   table = λ l s t q r p e. p ∙ sym e;
+  recordNo = λ l c q r p e. p ∙ sym e;
+  recordHanded = λ l c q r p e. p ∙ sym e;
+  recordPlaced = λ l c q r p e. p ∙ sym e;
 }

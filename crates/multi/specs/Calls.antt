@@ -32,8 +32,9 @@ use Rattle.placement.specs.Shares.{risingFrom}
 use Rattle.placement.specs.Calls.{walkIn}
 use Rattle.multi.specs.declared.calls.Generated.{Generated}
 use Rattle.multi.specs.declared.calls.Share.{Share}
+use Rattle.multi.specs.declared.image.RecordPlace.{RecordPlace}
 use Rattle.multi.specs.Rules.{multiShare, pairs, wordsUsed, madeRecord}
-use Rattle.multi.specs.Image.{multiLength, multiBytes, bytesOf, partyIn, bucketsIn, domainIn, keysIn, recordOf, sizeIn, multiOk}
+use Rattle.multi.specs.Image.{multiLength, multiBytes, bytesOf, partyIn, bucketsIn, domainIn, keysIn, recordOf, sizeIn, multiOk, recordNumber, placeOf, recordGiven}
 
 -- ---- making a pair
 
@@ -248,3 +249,7 @@ pub record CallsDetermined (H : Word → Word) (bucket : List ℕ → ℕ → �
   pub oneCell : (l : List ℕ) (x : ℕ) (s : List ℕ) (q r : Reading) → EvaluatesAt H bucket l x s q → EvaluatesAt H bucket l x s r → q ≡ r
   pub allCells : (l s o : List ℕ) (q r : Evaluating) → EvaluatesDomain H bucket l s o q → EvaluatesDomain H bucket l s o r → q ≡ r
   pub table : (l s t : List ℕ) (q r : Adding) → AddsTo H bucket l s t q → AddsTo H bucket l s t r → q ≡ r
+  -- handing out a bucket's record: the number, the part of the image, and where it stands
+  pub recordNo : (l : List ℕ) (c q r : ℕ) → q ≡ recordNumber l c → r ≡ recordNumber l c → q ≡ r
+  pub recordHanded : (l : List ℕ) (c : ℕ) (q r : List ℕ) → q ≡ recordGiven l c → r ≡ recordGiven l c → q ≡ r
+  pub recordPlaced : (l : List ℕ) (c : ℕ) (q r : RecordPlace) → q ≡ placeOf l c → r ≡ placeOf l c → q ≡ r

@@ -40,14 +40,14 @@ loop-less c = omega (arith, c .before .before .step .ensures .1, c .before .befo
 
 loop-again : tie.Need-loop-again Inv-loop μ-loop
 loop-again c =
-    trying-step _ _ _ _ _ _ _ _ _ _ _ _ _ _ (c .before .before .before .before .before .before .before .before .loop .inv) (omega (arith, c .before .before .before .before .if2 .left)) (c .before .before .before .before .before .before .if1 .taken)
+    trying-step _ _ _ _ _ _ _ _ _ _ _ _ _ _ (c .before .before .before .before .before .before .before .before .loop .inv) (omega (arith, c .before .before .before .before .if2 .left)) (omega (arith, c .before .before .before .before .before .before .if1 .taken))
     (c .before .before .step .ensures .1) (c .before .before .step .ensures .0)
 
 same-length-2 : tie.Need-same-length-2 Inv-loop μ-loop
 same-length-2 c = sound-length _ _ _ _ _ (c .before .before .loop .inv .sound) ∙ sym (sound-length _ _ _ _ _ (c .before .before .before .before .before .pre .5))
 
 returns-2 : tie.Need-returns-2 Inv-loop μ-loop
-returns-2 c = trying-out _ _ _ _ _ _ _ _ _ _ (c .before .before .loop .inv) (c .if1 .left)
+returns-2 c = trying-out _ _ _ _ _ _ _ _ _ _ (c .before .before .loop .inv) (omega (arith, c .if1 .left))
 
 pub insert-spec : {M : Type 1} → statement M
 insert-spec =
