@@ -64,6 +64,63 @@ fn next_mark(marks: &[u64], k: usize) -> usize {
 
 // ---- the desk
 
+// What was posted by several points, and what making answered.
+fn posted_many(k: usize, d: u64, b: u64, points: &[u64], values: &[u64]) {
+    number(b"posting ", k as u64);
+    number(b": multi, D ", d);
+    number(b", B ", b);
+    io::write_all(1, b", points");
+    list(points);
+    io::write_all(1, b", values");
+    list(values);
+}
+
+fn made_many(r: multi::calls::Generated) {
+    number(b"  number ", r.number);
+    number(b", length ", r.length);
+    number(b", words ", r.words);
+    answer(b", evictions ", r.evictions);
+}
+
+// The same of one point.
+fn posted_single(k: usize, d: u64, point: u64, value: u64) {
+    number(b"posting ", k as u64);
+    number(b": single, D ", d);
+    number(b", point ", point);
+    number(b", value ", value);
+}
+
+fn made_single(r: single::calls::Generated) {
+    number(b"  number ", r.number);
+    number(b", length ", r.length);
+    answer(b", words ", r.words);
+}
+
+// A pair with the words and hash keys of its bucket count.
+fn made_pair(
+    d: u64,
+    b: u64,
+    points: &[u64],
+    values: &[u64],
+    key0: &mut [u8],
+    key1: &mut [u8],
+) -> multi::calls::Generated {
+    let mut words = [0u64; 96];
+    let mut scratch = [0u64; 108];
+    fill(&mut words, b);
+    multi::calls::generate_keys(
+        d,
+        b,
+        keys(b),
+        points,
+        values,
+        &words,
+        &mut scratch,
+        key0,
+        key1,
+    )
+}
+
 // Both images of posting k, behind those before it.
 fn many_in(
     k: usize,
@@ -75,36 +132,14 @@ fn many_in(
     mail0: &mut [u8],
     mail1: &mut [u8],
 ) {
-    let mut words = [0u64; 96];
-    let mut scratch = [0u64; 108];
     let at = mark(marks, k);
     if mail0.len() < at || mail1.len() < at {
         return;
     }
-    fill(&mut words, b);
-    let r = multi::calls::generate_keys(
-        d,
-        b,
-        keys(b),
-        points,
-        values,
-        &words,
-        &mut scratch,
-        &mut mail0[at..],
-        &mut mail1[at..],
-    );
+    let r = made_pair(d, b, points, values, &mut mail0[at..], &mut mail1[at..]);
     set_mark(marks, k, r.length);
-    number(b"posting ", k as u64);
-    number(b": multi, D ", d);
-    number(b", B ", b);
-    io::write_all(1, b", points");
-    list(points);
-    io::write_all(1, b", values");
-    list(values);
-    number(b"  number ", r.number);
-    number(b", length ", r.length);
-    number(b", words ", r.words);
-    answer(b", evictions ", r.evictions);
+    posted_many(k, d, b, points, values);
+    made_many(r);
 }
 
 fn single_in(
@@ -131,13 +166,8 @@ fn single_in(
         &mut mail1[at..],
     );
     set_mark(marks, k, r.length);
-    number(b"posting ", k as u64);
-    number(b": single, D ", d);
-    number(b", point ", point);
-    number(b", value ", value);
-    number(b"  number ", r.number);
-    number(b", length ", r.length);
-    answer(b", words ", r.words);
+    posted_single(k, d, point, value);
+    made_single(r);
 }
 
 fn many(
@@ -179,20 +209,33 @@ fn folded(mail0: &[u8; 8192], mail1: &[u8; 8192]) {
     io::write_all(1, b"\n");
 }
 
-// Postings 0 to 5 are for the table. 6 and 7 are over other domains, and 8 is spoiled.
-fn desk(marks: &mut [u64; 10], mail0: &mut [u8; 8192], mail1: &mut [u8; 8192]) {
+// Postings 0 to 5 are for the table.
+fn first_postings(marks: &mut [u64; 10], mail0: &mut [u8; 8192], mail1: &mut [u8; 8192]) {
     many(0, CELLS, 8, &A, &A_VALUES, marks, mail0, mail1);
     single(1, CELLS, 20, 7, marks, mail0, mail1);
     many(2, CELLS, 3, &C, &C_VALUES, marks, mail0, mail1);
+}
+
+fn last_postings(marks: &mut [u64; 10], mail0: &mut [u8; 8192], mail1: &mut [u8; 8192]) {
     single(3, CELLS, 39, 18446744073709551612, marks, mail0, mail1);
     many(4, CELLS, 24, &E, &E_VALUES, marks, mail0, mail1);
     many(5, CELLS, 12, &F, &F_VALUES, marks, mail0, mail1);
+}
+
+// 6 and 7 are over other domains, and 8 is spoiled.
+fn other_postings(marks: &mut [u64; 10], mail0: &mut [u8; 8192], mail1: &mut [u8; 8192]) {
     many(6, 41, 3, &C, &C_VALUES, marks, mail0, mail1);
     single(7, 39, 20, 9, marks, mail0, mail1);
     many(8, CELLS, 3, &C, &C_VALUES, marks, mail0, mail1);
     let at = mark(marks, 8);
     spoil(mail0, at);
     spoil(mail1, at);
+}
+
+fn desk(marks: &mut [u64; 10], mail0: &mut [u8; 8192], mail1: &mut [u8; 8192]) {
+    first_postings(marks, mail0, mail1);
+    last_postings(marks, mail0, mail1);
+    other_postings(marks, mail0, mail1);
     folded(mail0, mail1);
 }
 
@@ -254,13 +297,25 @@ fn short_single(name: &[u8], marks: &[u64; 10], mail: &[u8; 8192], t: &mut [u64;
 // Postings 0 to 5. Between them: a part of image 0, a single image as a multi one, an image over 41 cells, the spoiled image, and
 // scratch too short.
 fn partner_0(marks: &[u64; 10], mail: &[u8; 8192], t: &mut [u64; 40]) {
+    begins_0(marks, mail, t);
+    goes_on_0(marks, mail, t);
+    ends_0(marks, mail, t);
+}
+
+fn begins_0(marks: &[u64; 10], mail: &[u8; 8192], t: &mut [u64; 40]) {
     as_many(b"partner 0: 0", 0, marks, mail, t);
     cut(b"partner 0: 0, cut", 100, mail, t);
     as_single(b"partner 0: 1", 1, marks, mail, t);
     as_many(b"partner 0: 1, as multi", 1, marks, mail, t);
+}
+
+fn goes_on_0(marks: &[u64; 10], mail: &[u8; 8192], t: &mut [u64; 40]) {
     as_many(b"partner 0: 2", 2, marks, mail, t);
     as_many(b"partner 0: 6, 41 cells", 6, marks, mail, t);
     as_single(b"partner 0: 3", 3, marks, mail, t);
+}
+
+fn ends_0(marks: &[u64; 10], mail: &[u8; 8192], t: &mut [u64; 40]) {
     as_many(b"partner 0: 8, spoiled", 8, marks, mail, t);
     short_many(b"partner 0: 4, scratch 287", marks, mail, t);
     as_many(b"partner 0: 4", 4, marks, mail, t);
@@ -270,13 +325,25 @@ fn partner_0(marks: &[u64; 10], mail: &[u8; 8192], t: &mut [u64; 40]) {
 // Postings 5, 3, 0, 4, 2, 1. Between them: a multi image as a single one, scratch too short, an image over 39 cells, the spoiled
 // image, and no bytes at all.
 fn partner_1(marks: &[u64; 10], mail: &[u8; 8192], t: &mut [u64; 40]) {
+    begins_1(marks, mail, t);
+    goes_on_1(marks, mail, t);
+    ends_1(marks, mail, t);
+}
+
+fn begins_1(marks: &[u64; 10], mail: &[u8; 8192], t: &mut [u64; 40]) {
     as_many(b"partner 1: 5", 5, marks, mail, t);
     as_single(b"partner 1: 5, as single", 5, marks, mail, t);
     as_single(b"partner 1: 3", 3, marks, mail, t);
     short_single(b"partner 1: 1, scratch 79", marks, mail, t);
+}
+
+fn goes_on_1(marks: &[u64; 10], mail: &[u8; 8192], t: &mut [u64; 40]) {
     as_many(b"partner 1: 0", 0, marks, mail, t);
     as_single(b"partner 1: 7, 39 cells", 7, marks, mail, t);
     as_many(b"partner 1: 4", 4, marks, mail, t);
+}
+
+fn ends_1(marks: &[u64; 10], mail: &[u8; 8192], t: &mut [u64; 40]) {
     as_many(b"partner 1: 8, spoiled", 8, marks, mail, t);
     as_many(b"partner 1: 2", 2, marks, mail, t);
     cut(b"partner 1: nothing", 0, mail, t);
@@ -303,9 +370,17 @@ fn post_all(points: &[u64], values: &[u64], plain: &mut [u64]) {
 
 // All that was posted, over what the partners' tables held at first.
 fn in_clear(plain: &mut [u64; 40]) {
+    first_in_clear(plain);
+    last_in_clear(plain);
+}
+
+fn first_in_clear(plain: &mut [u64; 40]) {
     post_all(&A, &A_VALUES, plain);
     post(20, 7, plain);
     post_all(&C, &C_VALUES, plain);
+}
+
+fn last_in_clear(plain: &mut [u64; 40]) {
     post(39, 18446744073709551612, plain);
     post_all(&E, &E_VALUES, plain);
     post_all(&F, &F_VALUES, plain);

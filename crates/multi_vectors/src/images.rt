@@ -80,16 +80,28 @@ fn word(name: &[u8], k: &[u8], at: usize, high: usize) {
 }
 
 fn fields(k: &[u8]) {
+    header_fields(k);
+    key_fields(k);
+    record_fields(k);
+}
+
+fn header_fields(k: &[u8]) {
     number(b"image: party ", bytes::get_u32(k, 0));
     number(b", B ", bytes::get_u32(k, 4));
     number(b", D ", bytes::get_u64(k, 8));
     number(b", n ", bytes::get_u32(k, 16));
     number(b", directory ", bytes::get_u32(k, 20));
     answer(b", entry ", bytes::get_u64(k, 72));
+}
+
+fn key_fields(k: &[u8]) {
     word(b"  hash keys ", k, 24, 32);
     word(b" ", k, 40, 48);
     word(b" ", k, 56, 64);
     number(b"\n  size ", bytes::get_u64(k, 80));
+}
+
+fn record_fields(k: &[u8]) {
     word(b", seed ", k, 88, 96);
     word(b", hcw ", k, 104, 112);
     number(b", lcw ", bytes::get_u64(k, 120));
@@ -123,9 +135,17 @@ fn record(name: &[u8], k: &[u8], bucket: u64) {
 }
 
 fn records_of(k: &[u8; 272]) {
+    first_records(k);
+    last_records(k);
+}
+
+fn first_records(k: &[u8; 272]) {
     record(b"D 1, B 4", k, 0);
     record(b"D 1, B 4", k, 1);
     record(b"D 1, B 4", k, 2);
+}
+
+fn last_records(k: &[u8; 272]) {
     record(b"D 1, B 4", k, 3);
     record(b"D 1, B 4", k, 4);
     record(b"D 1, B 4", k, 18446744073709551615);
@@ -173,41 +193,73 @@ fn with(name: &[u8], at: usize, byte: u8) {
 }
 
 fn header() {
+    party_byte();
+    size_bytes();
+    other_bytes();
+    hash_key_bytes();
+}
+
+fn party_byte() {
     with(b"party 0", 0, 0);
     with(b"party 1", 0, 1);
     with(b"party 2", 0, 2);
     with(b"party 2^24", 3, 1);
+}
+
+fn size_bytes() {
     with(b"B 0", 4, 0);
     with(b"B 1 of 2", 4, 1);
     with(b"B 3 of 2", 4, 3);
     with(b"D 0", 8, 0);
     with(b"D 4 of 5", 8, 4);
     with(b"D 6 of 5", 8, 6);
+}
+
+fn other_bytes() {
     with(b"D 2^32 + 5", 12, 1);
     with(b"n 0", 16, 0);
     with(b"n 1", 16, 1);
     with(b"n 3", 16, 3);
     with(b"directory 71", 20, 71);
     with(b"directory 73", 20, 73);
+}
+
+fn hash_key_bytes() {
     with(b"hash key 0", 24, 0);
     with(b"hash key 2, sizes as before", 71, 0);
 }
 
 fn body() {
+    entry_bytes();
+    record_sizes();
+    seed_bytes();
+    last_bytes();
+}
+
+fn entry_bytes() {
     with(b"entry 0 is 0", 72, 0);
     with(b"entry 0 is 87", 72, 87);
     with(b"entry 0 is 89", 72, 89);
     with(b"entry 1 is 0", 80, 0);
     with(b"entry 1 is 175", 80, 175);
+}
+
+fn record_sizes() {
     with(b"size 0 of 8", 88, 0);
     with(b"size 7 of 8", 88, 7);
     with(b"size 9 of 8", 88, 9);
     with(b"size 2^34 + 8", 92, 4);
+}
+
+fn seed_bytes() {
     with(b"seed", 96, 1);
     with(b"hcw", 112, 255);
     with(b"lcw 3", 128, 3);
     with(b"lcw 4", 128, 4);
     with(b"lcw 2^56", 135, 1);
+}
+
+fn last_bytes() {
     with(b"last word", 136, 1);
     with(b"correction word", 144, 1);
     with(b"size 8 of 7", 176, 8);
@@ -227,10 +279,18 @@ fn with_one(name: &[u8], at: usize, byte: u8) {
 }
 
 fn tiny() {
+    tiny_seeds();
+    tiny_rest();
+}
+
+fn tiny_seeds() {
     with_one(b"S 1", 104, 1);
     with_one(b"S 1, size 2", 104, 2);
     with_one(b"S 1, seed", 112, 1);
     with_one(b"S 1, hcw", 128, 1);
+}
+
+fn tiny_rest() {
     with_one(b"S 1, lcw", 144, 1);
     with_one(b"S 1, last word", 152, 1);
     with_one(b"S 1, an entry for no record", 80, 104);
@@ -280,22 +340,6 @@ fn another_size() {
     numbers(b"D 1, B 1, size 4 of 3", &k, 0, 1);
 }
 
-// No record at all among so many buckets, over one cell.
-fn many(name: &[u8], b: u32, k: &mut [u8]) {
-    let mut scratch = [9u64; 65536];
-    put_header(k, b, 1);
-    io::write_all(1, name);
-    number(b"  cell ", calls::evaluate_at(k, 0, &mut scratch).number);
-    answer(b", record ", image::record_number(k, 65534));
-}
-
-fn most_buckets() {
-    let mut k = [0u8; 524352];
-    let mut l = [0u8; 524360];
-    many(b"B 65535, no record", 65535, &mut k);
-    many(b"B 65536, no record", 65536, &mut l);
-}
-
 pub(crate) fn all() {
     smallest();
     records();
@@ -305,5 +349,4 @@ pub(crate) fn all() {
     lengths();
     no_record();
     another_size();
-    most_buckets();
 }

@@ -109,11 +109,23 @@ pub(crate) fn known_sums() {
 
 // Domain and buckets.
 fn sizes() {
+    small_domains();
+    large_domains();
+    bucket_counts();
+}
+
+fn small_domains() {
     given(b"D 0", 0, 2, &[1, 4], &[10, 20]);
     given(b"D 1, B 1", 1, 1, &[0], &[5]);
+}
+
+fn large_domains() {
     large(b"D 2^32 - 1, last point", 4294967295, 4294967294);
     large(b"D 2^32 - 1, a point more", 4294967295, 4294967295);
     large(b"D 2^32, last point", 4294967296, 4294967295);
+}
+
+fn bucket_counts() {
     given(b"B 0", 5, 0, &[1, 4], &[10, 20]);
     given(b"B 65535", 5, 65535, &[1, 4], &[10, 20]);
     given(b"B 65536", 5, 65536, &[1, 4], &[10, 20]);
@@ -121,13 +133,25 @@ fn sizes() {
 
 // Points and values: how many, and in which order.
 fn lists() {
+    point_counts();
+    value_counts();
+    point_orders();
+}
+
+fn point_counts() {
     given(b"no points, no values", 5, 2, &NONE, &NONE);
     given(b"n 1, B 2", 5, 2, &[4], &[20]);
     given(b"n 2, B 2", 5, 2, &[1, 4], &[10, 20]);
     given(b"n 3, B 2", 5, 2, &[1, 2, 4], &[10, 20, 30]);
+}
+
+fn value_counts() {
     given(b"n 2, 1 value", 5, 2, &[1, 4], &[10]);
     given(b"n 2, 3 values", 5, 2, &[1, 4], &[10, 20, 30]);
     given(b"points 3 4", 5, 2, &[3, 4], &[10, 20]);
+}
+
+fn point_orders() {
     given(b"points 3 3", 5, 2, &[3, 3], &[10, 20]);
     given(b"points 3 2", 5, 2, &[3, 2], &[10, 20]);
     given(b"points 3 5", 5, 2, &[3, 5], &[10, 20]);
@@ -143,12 +167,24 @@ fn lent(name: &[u8], w: usize, s: usize, room0: usize, room1: usize) {
 
 // Scratch 4B + n, words, and either buffer's room; what is beyond stays as it was. An odd last element of words is ignored.
 fn lengths() {
+    scratch_lengths();
+    word_counts();
+    buffer_lengths();
+}
+
+fn scratch_lengths() {
     lent(b"scratch 9", 8, 9, 264, 264);
     lent(b"scratch 10", 8, 10, 264, 264);
     lent(b"scratch 11", 8, 11, 264, 264);
+}
+
+fn word_counts() {
     lent(b"words 7", 7, 11, 264, 264);
     lent(b"words 8", 8, 11, 264, 264);
     lent(b"words 9", 9, 11, 264, 264);
+}
+
+fn buffer_lengths() {
     lent(b"room 263 and 264", 8, 11, 263, 264);
     lent(b"room 264 and 263", 8, 11, 264, 263);
     lent(b"room 265 and 264", 8, 11, 265, 264);
@@ -165,40 +201,24 @@ fn mended(name: &[u8], d: u64, b: u64, k: [u8; 48], points: &[u64], w: usize, s:
 // Everything is wrong, and then one thing after the other is mended: refusals 1 to 8 in their order. Hash keys of zeros put both
 // points into one bucket.
 fn order() {
-    let k = keys(7);
     let same = [0u8; 48];
+    given_wrong(same);
+    lent_wrong(same, keys(7));
+}
+
+fn given_wrong(same: [u8; 48]) {
     mended(b"all wrong", 0, 0, same, &[4], 0, 0, 0);
     mended(b"D mended", 5, 0, same, &[4], 0, 0, 0);
     mended(b"B mended", 5, 2, same, &[4], 0, 0, 0);
     mended(b"n mended", 5, 2, same, &[4, 1], 0, 0, 0);
     mended(b"points mended", 5, 2, same, &[1, 4], 0, 0, 0);
+}
+
+fn lent_wrong(same: [u8; 48], k: [u8; 48]) {
     mended(b"scratch mended", 5, 2, same, &[1, 4], 0, 11, 0);
     mended(b"hash keys mended", 5, 2, k, &[1, 4], 0, 11, 0);
     mended(b"words mended", 5, 2, k, &[1, 4], 8, 11, 0);
     mended(b"all mended", 5, 2, k, &[1, 4], 8, 11, 264);
-}
-
-// ---- the most buckets
-
-// One cell, in three of them.
-fn most_buckets() {
-    let mut words = [0u64; 6];
-    let mut nines = [9u64; 262142];
-    let mut key0 = [7u8; 524521];
-    let mut key1 = [7u8; 524521];
-    fill(&mut words, 5);
-    make_in(
-        b"D 1, B 65535",
-        1,
-        65535,
-        keys(7),
-        &[0],
-        &[5],
-        &words,
-        &mut nines,
-        &mut key0,
-        &mut key1,
-    );
 }
 
 pub(crate) fn all() {
@@ -206,5 +226,4 @@ pub(crate) fn all() {
     lists();
     lengths();
     order();
-    most_buckets();
 }

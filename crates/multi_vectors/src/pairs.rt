@@ -76,6 +76,10 @@ fn posting(d: u64, b: u64, points: &[u64], values: &[u64], made: calls::Generate
     list(points);
     io::write_all(1, b", values");
     list(values);
+    answered(made);
+}
+
+fn answered(made: calls::Generated) {
     number(b"  number ", made.number);
     number(b", length ", made.length);
     number(b", words ", made.words);
@@ -130,17 +134,33 @@ const LAST: u64 = 18446744073709551615;
 // agree everywhere (hash keys of zeros); a walk that gives up.
 pub(crate) fn all() {
     let same = [0u8; 48];
+    one_cell();
+    few_cells();
+    full_buckets();
+    pair(3, 64, keys(4), &[0, 2], &[8, 9]);
+    pair(7, 3, same, &[2, 6], &[0, 7]);
+    many_cells();
+    pair(100, 8, same, &[99], &[6]);
+}
+
+fn one_cell() {
     pair(1, 1, keys(1), &[0], &[5]);
     pair(1, 4, keys(1), &[0], &[5]);
     pair(1, 4, keys(6), &[0], &[5]);
+}
+
+fn few_cells() {
     pair(2, 2, keys(2), &[0, 1], &[3, LAST]);
     pair(5, 2, keys(7), &[1, 4], &[10, 20]);
+}
+
+fn full_buckets() {
     pair(5, 5, keys(2), &[0, 1, 2, 3, 4], &[1, 2, 3, 4, 5]);
     pair(5, 5, keys(3), &[0, 1, 2, 3, 4], &[1, 2, 3, 4, 5]);
-    pair(3, 64, keys(4), &[0, 2], &[8, 9]);
-    pair(7, 3, same, &[2, 6], &[0, 7]);
+}
+
+fn many_cells() {
     pair(40, 8, keys(5), &[0, 1, 20, 39], &[1, 0, LAST, 4]);
     pair(40, 8, keys(2), &[3, 4, 5, 6, 7, 8], &[1, 1, 2, 3, 5, 8]);
     pair(100, 4, keys(7), &[5, 17, 40, 99], &[100, 200, 300, 400]);
-    pair(100, 8, same, &[99], &[6]);
 }

@@ -59,16 +59,24 @@ fn cell(name: &[u8], k: &[u8; 264], index: u64, room: usize) {
 fn one_cell() {
     let k = five();
     let other = strange();
-    cell(b"index 0, scratch 2  number ", &k, 0, 2);
-    cell(b"index 4, scratch 2  number ", &k, 4, 2);
-    cell(b"index 5, scratch 2  number ", &k, 5, 2);
-    cell(b"index 4, scratch 1  number ", &k, 4, 1);
-    cell(b"index 4, scratch 3  number ", &k, 4, 3);
-    cell_of(b"all wrong  number ", front(&k, 263), 5, 0);
-    cell(b"length mended  number ", &other, 5, 0);
-    cell(b"index mended  number ", &other, 4, 0);
-    cell(b"scratch mended  number ", &other, 4, 3);
-    cell(b"all mended  number ", &k, 4, 3);
+    cell_limits(&k);
+    cell_order(&k, &other);
+}
+
+fn cell_limits(k: &[u8; 264]) {
+    cell(b"index 0, scratch 2  number ", k, 0, 2);
+    cell(b"index 4, scratch 2  number ", k, 4, 2);
+    cell(b"index 5, scratch 2  number ", k, 5, 2);
+    cell(b"index 4, scratch 1  number ", k, 4, 1);
+    cell(b"index 4, scratch 3  number ", k, 4, 3);
+}
+
+fn cell_order(k: &[u8; 264], other: &[u8; 264]) {
+    cell_of(b"all wrong  number ", front(k, 263), 5, 0);
+    cell(b"length mended  number ", other, 5, 0);
+    cell(b"index mended  number ", other, 4, 0);
+    cell(b"scratch mended  number ", other, 4, 3);
+    cell(b"all mended  number ", k, 4, 3);
 }
 
 // ---- the whole domain
@@ -96,15 +104,23 @@ fn domain(name: &[u8], k: &[u8; 264], room: usize, n: usize) {
 fn whole_domain() {
     let k = five();
     let other = strange();
-    domain(b"scratch 33, room 5  number ", &k, 33, 5);
-    domain(b"scratch 34, room 4  number ", &k, 34, 4);
-    domain(b"scratch 34, room 5  number ", &k, 34, 5);
-    domain(b"scratch 35, room 6  number ", &k, 35, 6);
-    domain_of(b"all wrong  number ", front(&k, 263), 0, 0);
-    domain(b"length mended  number ", &other, 0, 0);
-    domain(b"scratch mended  number ", &other, 35, 0);
-    domain(b"room mended  number ", &other, 35, 6);
-    domain(b"all mended  number ", &k, 35, 6);
+    domain_limits(&k);
+    domain_order(&k, &other);
+}
+
+fn domain_limits(k: &[u8; 264]) {
+    domain(b"scratch 33, room 5  number ", k, 33, 5);
+    domain(b"scratch 34, room 4  number ", k, 34, 4);
+    domain(b"scratch 34, room 5  number ", k, 34, 5);
+    domain(b"scratch 35, room 6  number ", k, 35, 6);
+}
+
+fn domain_order(k: &[u8; 264], other: &[u8; 264]) {
+    domain_of(b"all wrong  number ", front(k, 263), 0, 0);
+    domain(b"length mended  number ", other, 0, 0);
+    domain(b"scratch mended  number ", other, 35, 0);
+    domain(b"room mended  number ", other, 35, 6);
+    domain(b"all mended  number ", k, 35, 6);
 }
 
 // ---- adding
@@ -132,16 +148,24 @@ fn adding(name: &[u8], k: &[u8; 264], n: usize, room: usize) {
 fn table() {
     let k = five();
     let other = strange();
-    adding(b"table 4, scratch 34  number ", &k, 4, 34);
-    adding(b"table 6, scratch 34  number ", &k, 6, 34);
-    adding(b"table 5, scratch 33  number ", &k, 5, 33);
-    adding(b"table 5, scratch 34  number ", &k, 5, 34);
-    adding(b"table 5, scratch 35  number ", &k, 5, 35);
-    adding_of(b"all wrong  number ", front(&k, 263), 0, 0);
-    adding(b"length mended  number ", &other, 0, 0);
-    adding(b"table mended  number ", &other, 5, 0);
-    adding(b"scratch mended  number ", &other, 5, 35);
-    adding(b"all mended  number ", &k, 5, 35);
+    table_limits(&k);
+    table_order(&k, &other);
+}
+
+fn table_limits(k: &[u8; 264]) {
+    adding(b"table 4, scratch 34  number ", k, 4, 34);
+    adding(b"table 6, scratch 34  number ", k, 6, 34);
+    adding(b"table 5, scratch 33  number ", k, 5, 33);
+    adding(b"table 5, scratch 34  number ", k, 5, 34);
+    adding(b"table 5, scratch 35  number ", k, 5, 35);
+}
+
+fn table_order(k: &[u8; 264], other: &[u8; 264]) {
+    adding_of(b"all wrong  number ", front(k, 263), 0, 0);
+    adding(b"length mended  number ", other, 0, 0);
+    adding(b"table mended  number ", other, 5, 0);
+    adding(b"scratch mended  number ", other, 5, 35);
+    adding(b"all mended  number ", k, 5, 35);
 }
 
 // ---- 152 bytes that claim a huge domain
