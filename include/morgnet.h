@@ -188,7 +188,7 @@ uint64_t morgnet_single_add_to(const uint8_t *key, size_t key_len,
  *   domain     in     number of cells, D: 1 to 2^32 - 1
  *   buckets    in     number of buckets, B: 1 to 65,535, at least the number of points. The more, the seldomer
  *                     MORGNET_PLACE, and the longer the image. 9 buckets for 5 points and 48 more is a good choice:
- *                     measured, MORGNET_PLACE then came once in 130,000 draws of hash keys for 2 points, and in none
+ *                     measured, MORGNET_PLACE then came once in 120,000 draws of hash keys for 2 points, and in none
  *                     of those tried for 10 to 58,000 (docs/BENCH.md). More than 60,000 points do not fit into 65,535
  *                     buckets: split the posting.
  *   hash_keys  in     three random keys of 16 bytes

@@ -218,23 +218,9 @@ fn huge() {
     answer(b"152 bytes, D 2^32: cell 0  number ", r);
 }
 
-// With scratch for the whole domain that it claims, and an output one cell short.
-fn large() {
-    let k = claiming(10000);
-    let mut nines = [9u64; 60002];
-    let mut out = [9u64; 9999];
-    let r = calls::evaluate_domain(&k, &mut nines, &mut out);
-    answer(b"152 bytes, D 10000: whole domain, room 9999  number ", r);
-    let r = calls::add_to(&k, &mut nines, &mut out);
-    answer(b"152 bytes, D 10000: table of 9999 cells  number ", r);
-    number(b"152 bytes, D 10000: zeros ", zeros(&nines));
-    answer(b" and ", zeros(&out));
-}
-
 pub(crate) fn all() {
     one_cell();
     whole_domain();
     table();
     huge();
-    large();
 }

@@ -20,19 +20,6 @@ pub(crate) fn hex(name: &[u8], x: u64) {
     io::print_hex(1, x, 16);
 }
 
-// The cells that are not 0, each with what it holds, to the end of the line.
-pub(crate) fn cells(t: &[u64]) {
-    let mut x: usize = 0;
-    while x < t.len() {
-        if t[x] != 0 {
-            number(b" ", x as u64);
-            number(b":", t[x]);
-        }
-        x += 1;
-    }
-    io::write_all(1, b"\n");
-}
-
 // Every element after a space.
 pub(crate) fn list(t: &[u64]) {
     let mut i: usize = 0;

@@ -87,23 +87,39 @@ impl Row {
     }
 }
 
+const CALLS: &str = "
+## Beside the Rust
+
+One process times each call with the Rust's three ciphers and with the library, in turns, on the same inputs, and compares what they
+give. The Rust allocates what it returns; adding, in the Rust, is the whole domain and a loop. Software AES is RustCrypto's (Debian's
+`aes` 0.6); byte-wise AES is FIPS 197 byte by byte with a table of 256 bytes, a round in one pass; AES-NI is the processor's. Each
+call of the Rust and of the library expands its keys once.
+
+Nanoseconds a cell; microseconds for the whole call where it does not go over all cells (us). The whole domain of a multi key, and
+adding it, take 10.5 blocks a cell here and 7.5 in the Rust: it keeps the buckets of all cells in memory, where the library, which
+has no room for them in its scratch, hashes each cell again. \"Hashes kept\": the Rust can keep them between calls too.
+
+| call | cells, buckets, points | software AES | byte-wise AES | AES-NI | Morgnet | / software | / byte-wise | / AES-NI |
+|---|---|---:|---:|---:|---:|---:|---:|---:|
+";
+
+const BLOCK: &str = "
+## One block
+
+Blocks in a chain, each the one before encrypted. The C face expands the key at each call, so it has no row without that.
+
+";
+
 /// Runs the oracle's programs and prints their tables.
 pub fn tables(say: &mut Say, folder: &Path, seconds: f64, largest: u64) -> Result<(), Problem> {
     let text = printed(&folder.join("bench"), &[seconds.to_string(), largest.to_string()])?;
     let rows = rows(&text);
-    say.line("\n## Beside the Rust\n")?;
-    say.line("One process times each call with the Rust's three ciphers and with the library, in turns, on the same inputs, and compares")?;
-    say.line("what they give. The Rust allocates what it returns; adding, in the Rust, is the whole domain and a loop. Software AES is")?;
-    say.line("RustCrypto's (Debian's `aes` 0.6), byte-wise AES is FIPS 197 byte by byte, AES-NI the processor's instructions. Nanoseconds a")?;
-    say.line("cell; microseconds for the whole call where that does not go over all cells (us). \"Hashes kept\": the Rust can keep the")?;
-    say.line("bucket hashes of a whole domain between calls; the library keeps nothing.\n")?;
-    say.line("| call | cells, buckets, points | software AES | byte-wise AES | AES-NI | Morgnet | / software | / byte-wise | / AES-NI |")?;
-    say.line("|---|---|---:|---:|---:|---:|---:|---:|---:|")?;
+    say.text(CALLS)?;
     rows.iter().try_for_each(|row| say.line(row.line()))?;
     if rows.iter().all(|row| row.columns[3].is_none()) {
         say::note("the oracle's bench is built without the library: see oracle/build.sh");
     }
-    say.line("\n## One block\n")?;
-    say.line("Blocks in a chain, each the one before encrypted. The C face expands the key at each call, so it has no row without that.\n")?;
-    say.text(&printed(&folder.join("bench_aes"), &[seconds.to_string()])?)
+    let blocks = printed(&folder.join("bench_aes"), &[seconds.to_string()])?;
+    say.text(BLOCK)?;
+    say.text(&blocks)
 }

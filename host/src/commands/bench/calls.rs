@@ -9,6 +9,17 @@ use std::time::Duration;
 const SINGLE: [u32; 3] = [12, 16, 20];
 const MULTI: [u32; 4] = [14, 16, 18, 20];
 
+const GROWTH: &str = "
+## How the cost grows
+
+The library alone. A tree over S cells has the least height h with 2^h at least S: making a single key and reading one cell of it
+grow with h, everything else with the number of cells. A cell of a single key costs 1.5 tree hashes. A cell of a multi key costs 3
+bucket hashes where the buckets are counted (making, one cell), and 6 and 4.5 tree hashes where all cells are read. Blocks counted
+by callgrind: 34 for one cell of 2^34; 24,607 to make a pair over 2^14 cells and read the whole domain of one; and for a multi key
+over 2^14 cells 76,156 to make a pair, 49,170 for one cell, 173,590 for the whole domain.
+
+";
+
 /// What was measured of one table size.
 struct Measured {
     cells: u64,
@@ -116,10 +127,7 @@ fn rows(say: &mut Say, kind: &str, i: usize, sizes: &[Measured]) -> Result<(), P
 }
 
 fn growth(say: &mut Say, kinds: &[(&str, Vec<Measured>)]) -> Result<(), Problem> {
-    say.line("\n## How the cost grows\n")?;
-    say.line("The library alone. A tree over S cells has the least height h with 2^h at least S: making a single key and reading one")?;
-    say.line("cell of it grow with h, everything else with the number of cells. A cell of a single key costs 1.5 tree hashes, a cell of")?;
-    say.line("a multi key 3 bucket hashes where buckets are counted (making, one cell) and 3 more and 4.5 tree hashes where all are read.\n")?;
+    say.text(GROWTH)?;
     say.line("| call | cells | us | ns a cell | times as long |")?;
     say.line("|---|---:|---:|---:|---:|")?;
     for (kind, sizes) in kinds {

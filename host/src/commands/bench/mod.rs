@@ -101,23 +101,27 @@ fn processor() -> String {
     name.map_or("unknown processor", |(_, name)| name).to_string()
 }
 
+const HEAD: &str = "# Measurements
+
+Printed by `morgnet bench --draws 100000` (`--help` says more), where the oracle is built with the same library
+(`MORGNET_LIB=.. sh oracle/build.sh`). Ratios are what counts: all columns come from one run on one machine.
+
+";
+
 fn head(say: &mut Say) -> Result<(), Problem> {
     let processors = std::thread::available_parallelism().map_or(1, |n| n.get()) as u64;
-    say.line("# Measurements\n")?;
-    say.line("Printed by `morgnet bench` (`morgnet bench --help`); nothing here is typed in.\n")?;
+    let (points, buckets) = (counted(POINTS as u64, "point"), counted(BUCKETS, "bucket"));
+    say.text(HEAD)?;
     say.line(format!(
-        "Machine: {}, {}, {}.",
+        "- Machine: {}, {}; {}.",
         processor(),
         counted(processors, "processor"),
         env!("RUST_VERSION")
     ))?;
-    say.line("Library: `rt staticlib morgnet`, compiled for plain x86-64 (no AES instructions), linked into programs built for release.")?;
-    say.line("Times: the least processor time of several runs in one thread. Buffers are lent, touched before, and not cleared between")?;
-    say.line(format!(
-        "runs. Multi keys have {} in {}, as the source counts them. Nothing is constant time: the cipher looks bytes up in a table.",
-        counted(POINTS as u64, "point"),
-        counted(BUCKETS, "bucket")
-    ))
+    say.line("- Library: `rt staticlib morgnet`, compiled for plain x86-64 (no AES instructions); programs built for release.")?;
+    say.line("- Times: the least processor time of several runs in one thread. Buffers are lent, touched before, and not cleared.")?;
+    say.line(format!("- Multi keys have {points} in {buckets}, as the source counts buckets."))?;
+    say.line("- Nothing is constant time: the cipher looks bytes up in a table by secret bytes.")
 }
 
 pub fn run(arguments: Arguments, say: &mut Say) -> Result<(), Problem> {

@@ -8,34 +8,49 @@ use morgnet::{face, keys, Problem, Refusal};
 const COUNTS: [u64; 15] =
     [1, 2, 3, 4, 5, 10, 30, 100, 300, 1000, 10_000, 36_000, 58_000, 60_000, 60_500];
 
-/// Of so many draws of hash keys for one list of points: how many gave up, and all evictions of the others.
-fn drawn(points: u64, draws: u64, any: &mut Sequence) -> Result<(u64, u64), Problem> {
+/// What draws of hash keys for one list of points came to.
+#[derive(Default)]
+struct Drawn {
+    draws: u64,
+    given_up: u64,
+    evictions: u64,
+}
+
+/// So many draws, or fewer where it gives up a hundred times.
+fn drawn(points: u64, draws: u64, any: &mut Sequence) -> Result<Drawn, Problem> {
     let buckets = keys::default_buckets(points);
     let domain = points * 4000;
     let list = any.rising(points as usize, domain);
     let mut scratch = vec![0; (buckets + points) as usize];
-    let (mut given_up, mut evictions) = (0, 0);
-    for _ in 0..draws {
+    let mut drawn = Drawn::default();
+    while drawn.draws < draws && drawn.given_up < 100 {
+        drawn.draws += 1;
         match face::place(domain, buckets, &any.hash_keys(), &list, &mut scratch) {
-            Err(Refusal::Place) => given_up += 1,
-            placed => evictions += wanted(placed)?,
+            Err(Refusal::Place) => drawn.given_up += 1,
+            placed => drawn.evictions += wanted(placed)?,
         }
     }
-    Ok((given_up, evictions))
+    Ok(drawn)
 }
 
+const HEAD: &str = "
+## Placement with the default bucket count
+
+For n points the program takes 9 n / 5 + 48 buckets, rounded up and at most 65,535. One list of points for each line, fresh hash keys
+at each draw, until it has given up 100 times. Above 36,000 points the buckets run short; above 60,000 the points do not fit.
+
+| points | buckets | draws of hash keys | given up | evictions a point |
+|---:|---:|---:|---:|---:|
+";
+
 pub fn table(say: &mut Say, draws: u64, any: &mut Sequence) -> Result<(), Problem> {
-    say.line("\n## Placement with the default bucket count\n")?;
-    say.line("For n points the program takes 9 n / 5 + 48 buckets, rounded up and at most 65,535. One list of points for each line, fresh")?;
-    say.line("hash keys at each draw. Above 36,000 points the buckets run short, and above 60,000 the points do not fit.\n")?;
-    say.line("| points | buckets | draws of hash keys | given up | evictions a point |")?;
-    say.line("|---:|---:|---:|---:|---:|")?;
+    say.text(HEAD)?;
     let progress = Progress::steps("placing", COUNTS.len() as u64);
     for (i, points) in COUNTS.into_iter().enumerate() {
         progress.at(i as u64);
         // about as much work for each line
         let draws = (draws * 1000 / (points + 20)).max(1);
-        let (given_up, evictions) = drawn(points, draws, any)?;
+        let Drawn { draws, given_up, evictions } = drawn(points, draws, any)?;
         let each = evictions as f64 / (points * (draws - given_up).max(1)) as f64;
         say.line(format!(
             "| {} | {} | {} | {given_up} | {each:.3} |",

@@ -1,4 +1,6 @@
-//! AES-128 byte by byte, as FIPS 197 (2001) writes it, with the 256 substitution values in a table.
+//! AES-128 byte by byte, as FIPS 197 (2001) has it, with the 256 substitution values in a table. The steps of
+//! a round are done in one pass, column by column: one after the other, as the standard writes them, they
+//! take twice as long.
 #![forbid(unsafe_code)]
 
 pub use aes_names::cipher;
@@ -49,31 +51,20 @@ const fn substitution_values() -> [u8; 256] {
 
 static SBOX: [u8; 256] = substitution_values();
 
-fn sub_bytes(s: &mut [u8; 16]) {
-    for b in s.iter_mut() {
-        *b = SBOX[*b as usize];
-    }
+/// Sections 5.1.1 and 5.1.2: the bytes that ShiftRows brings to column c, substituted.
+fn shifted(s: &[u8; 16], c: usize) -> [u8; 4] {
+    std::array::from_fn(|row| SBOX[s[(4 * c + 5 * row) % 16] as usize])
 }
 
-fn shift_rows(s: &[u8; 16]) -> [u8; 16] {
-    std::array::from_fn(|i| s[(i + 4 * (i % 4)) % 16])
-}
-
-fn mix_columns(s: &mut [u8; 16]) {
-    for c in s.chunks_exact_mut(4) {
-        let all = c[0] ^ c[1] ^ c[2] ^ c[3];
-        let first = c[0];
-        c[0] ^= all ^ xtime(c[0] ^ c[1]);
-        c[1] ^= all ^ xtime(c[1] ^ c[2]);
-        c[2] ^= all ^ xtime(c[2] ^ c[3]);
-        c[3] ^= all ^ xtime(c[3] ^ first);
-    }
-}
-
-fn add_round_key(s: &mut [u8; 16], keys: &[u8; 176], round: usize) {
-    for (b, k) in s.iter_mut().zip(&keys[16 * round..16 * round + 16]) {
-        *b ^= k;
-    }
+/// Section 5.1.3: MixColumns on one column.
+fn mixed(a: [u8; 4]) -> [u8; 4] {
+    let all = a[0] ^ a[1] ^ a[2] ^ a[3];
+    [
+        a[0] ^ all ^ xtime(a[0] ^ a[1]),
+        a[1] ^ all ^ xtime(a[1] ^ a[2]),
+        a[2] ^ all ^ xtime(a[2] ^ a[3]),
+        a[3] ^ all ^ xtime(a[3] ^ a[0]),
+    ]
 }
 
 /// Section 5.2: the key schedule.
@@ -108,18 +99,26 @@ impl Aes128 {
 
     /// Section 5.1: the cipher on one block.
     pub fn encrypted(&self, block: [u8; 16]) -> [u8; 16] {
+        let keys = &self.keys;
         let mut s = block;
-        add_round_key(&mut s, &self.keys, 0);
-        for round in 1..10 {
-            sub_bytes(&mut s);
-            s = shift_rows(&s);
-            mix_columns(&mut s);
-            add_round_key(&mut s, &self.keys, round);
+        for i in 0..16 {
+            s[i] ^= keys[i];
         }
-        sub_bytes(&mut s);
-        s = shift_rows(&s);
-        add_round_key(&mut s, &self.keys, 10);
-        s
+        for round in 1..10 {
+            let mut t = [0; 16];
+            for c in 0..4 {
+                let column = mixed(shifted(&s, c));
+                for row in 0..4 {
+                    t[4 * c + row] = column[row] ^ keys[16 * round + 4 * c + row];
+                }
+            }
+            s = t;
+        }
+        let mut t = [0; 16];
+        for i in 0..16 {
+            t[i] = SBOX[s[(i + 4 * (i % 4)) % 16] as usize] ^ keys[160 + i];
+        }
+        t
     }
 }
 
