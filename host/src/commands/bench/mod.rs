@@ -103,8 +103,8 @@ fn processor() -> String {
 
 const HEAD: &str = "# Measurements
 
-Printed by `morgnet bench --draws 100000` (`--help` says more), where the oracle is built with the same library
-(`MORGNET_LIB=.. sh oracle/build.sh`). Ratios are what counts: all columns come from one run on one machine.
+Printed by `morgnet bench` (`--help` says more) where the oracle is built with the same library (`MORGNET_LIB=.. sh oracle/build.sh`).
+Ratios are what counts: all columns of a table come from one run on one machine.
 
 ";
 
