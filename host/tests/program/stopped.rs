@@ -48,14 +48,15 @@ fn a_run_that_is_stopped_between_two_keys() {
     says(&folder.good(&["read", "--cell", "17", "new.0.key", "new.1.key"]), &["  5  sum"]);
 }
 
-/// A run at the keyboard's interrupt, just before its file would stand there: the table is as it was.
+/// A run that is told to end, just before its file would stand there: the table is as it was. (TERM and not the keyboard's INT,
+/// which a run behind a shell's & passes over.)
 #[test]
 fn a_run_that_is_interrupted() {
     let folder = Folder::posted();
     let before = folder.read("a.table");
     let mut child = folder.held(ADD);
-    let interrupt = Command::new("kill").args(["-INT", &child.id().to_string()]).status();
-    assert!(interrupt.expect("kill").success());
+    let told_to_end = Command::new("kill").args(["-TERM", &child.id().to_string()]).status();
+    assert!(told_to_end.expect("kill").success());
     assert!(!child.wait().expect("it ends").success());
     assert_eq!(folder.read("a.table"), before);
     says(&told(&folder.run(ADD)), &["an earlier run was stopped"]);
