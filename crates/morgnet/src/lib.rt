@@ -29,8 +29,8 @@ pub extern "C" fn morgnet_single_generate_keys(
     key1: &mut [u8],
     answer: &mut [u64; 2],
 ) -> u64
-    ensures { λ r. ⌜ single.generating (face.generated r (now (answer .exit))) (now (key0 .exit)) (now (key1 .exit))
-        ≡ single.generateKeys treeHash domain point value (now (words .entry)) (now (key0 .entry)) (now (key1 .entry)) ⌝ }
+    ensures { λ r. ⌜ (r, now (answer .exit), now (key0 .exit), now (key1 .exit))
+        ≡ face.pairMade (single.generateKeys treeHash domain point value (now (words .entry)) (now (key0 .entry)) (now (key1 .entry))) ⌝ }
 {
     let r = single::calls::generate_keys(domain, point, value, words, key0, key1);
     *answer = [r.length, r.words];
@@ -55,7 +55,7 @@ pub extern "C" fn morgnet_single_evaluate_domain(
     scratch: &mut [u64],
     out: &mut [u64],
 ) -> u64
-    ensures { λ r. ⌜ single.evaluating r (now (scratch .exit)) (now (out .exit))
+    ensures { λ r. ⌜ single.swept r (now (scratch .exit)) (now (out .exit))
         ≡ single.evaluateDomain treeHash (now (key .entry)) (now (scratch .entry)) (now (out .entry)) ⌝ }
 {
     single::calls::evaluate_domain(key, scratch, out)
@@ -64,7 +64,7 @@ pub extern "C" fn morgnet_single_evaluate_domain(
 // `single::calls::add_to`.
 #[no_mangle]
 pub extern "C" fn morgnet_single_add_to(key: &[u8], scratch: &mut [u64], table: &mut [u64]) -> u64
-    ensures { λ r. ⌜ single.adding r (now (scratch .exit)) (now (table .exit))
+    ensures { λ r. ⌜ single.swept r (now (scratch .exit)) (now (table .exit))
         ≡ single.addTo treeHash (now (key .entry)) (now (scratch .entry)) (now (table .entry)) ⌝ }
 {
     single::calls::add_to(key, scratch, table)
@@ -86,10 +86,10 @@ pub extern "C" fn morgnet_multi_generate_keys(
     key1: &mut [u8],
     answer: &mut [u64; 3],
 ) -> u64
-    ensures { λ r. ⌜ multi.generating (face.generatedMulti r (now (answer .exit))) (now (scratch .exit)) (now (key0 .exit)) (now (key1 .exit))
-        ≡ multi.generateKeys treeHash bucketOf
+    ensures { λ r. ⌜ (r, now (answer .exit), now (scratch .exit), now (key0 .exit), now (key1 .exit))
+        ≡ face.multiMade (multi.generateKeys treeHash bucketOf
         (multi.given domain buckets (now (keys .entry)) (now (points .entry)) (now (values .entry)) (now (words .entry)))
-        (now (scratch .entry)) (now (key0 .entry)) (now (key1 .entry)) ⌝ }
+        (now (scratch .entry)) (now (key0 .entry)) (now (key1 .entry))) ⌝ }
 {
     let k = *keys;
     let r = multi::calls::generate_keys(
@@ -130,7 +130,7 @@ pub extern "C" fn morgnet_multi_evaluate_domain(
     scratch: &mut [u64],
     out: &mut [u64],
 ) -> u64
-    ensures { λ r. ⌜ multi.evaluating r (now (scratch .exit)) (now (out .exit))
+    ensures { λ r. ⌜ multi.swept r (now (scratch .exit)) (now (out .exit))
         ≡ multi.evaluateDomain treeHash bucketOf (now (key .entry)) (now (scratch .entry)) (now (out .entry)) ⌝ }
 {
     multi::calls::evaluate_domain(key, scratch, out)
@@ -139,7 +139,7 @@ pub extern "C" fn morgnet_multi_evaluate_domain(
 // `multi::calls::add_to`.
 #[no_mangle]
 pub extern "C" fn morgnet_multi_add_to(key: &[u8], scratch: &mut [u64], table: &mut [u64]) -> u64
-    ensures { λ r. ⌜ multi.adding r (now (scratch .exit)) (now (table .exit))
+    ensures { λ r. ⌜ multi.swept r (now (scratch .exit)) (now (table .exit))
         ≡ multi.addTo treeHash bucketOf (now (key .entry)) (now (scratch .entry)) (now (table .entry)) ⌝ }
 {
     multi::calls::add_to(key, scratch, table)
@@ -148,7 +148,7 @@ pub extern "C" fn morgnet_multi_add_to(key: &[u8], scratch: &mut [u64], table: &
 // `multi::image::record_place`; part: where the record begins, its length.
 #[no_mangle]
 pub extern "C" fn morgnet_multi_record(key: &[u8], bucket: u64, part: &mut [u64; 2]) -> u64
-    ensures { λ r. ⌜ face.place r (now (part .exit)) ≡ placeOf (now (key .entry)) bucket ⌝ }
+    ensures { λ r. ⌜ (r, now (part .exit)) ≡ face.placeGiven (placeOf (now (key .entry)) bucket) ⌝ }
 {
     let r = multi::image::record_place(key, bucket);
     *part = [r.start, r.bytes];

@@ -16,14 +16,14 @@ use Rattle.multi.specs.Calls.{addToNumber, addTo}
 use Rattle.multi.specs.Demand.{multiKey, answerOf, shareOf, callOf, AddingCounts}
 
 -- a list where the number is 0, another where it is not
-chosen : (n : ℕ) (x y : List ℕ) → onSuccess n x y ≡ cond (eqb n 0) x y
-chosen zero x y = refl
-chosen (suc n) x y = rw (ne-eqb (suc n) 0 (omega arith))
+success-test : (n : ℕ) (x y : List ℕ) → onSuccess n x y ≡ cond (eqb n 0) x y
+success-test zero x y = refl
+success-test (suc n) x y = rw (ne-eqb (suc n) 0 (omega arith))
 
 module _ (H : Word → Word) (bucket : List ℕ → ℕ → ℕ → ℕ → ℕ) (l s t : List ℕ) where
-  many-table : addTo H bucket l s t .table ≡ after (answerOf H bucket) 64 (shareOf H bucket) (callOf H bucket (multiKey l) s) t
+  many-table : addTo H bucket l s t .cells ≡ after (answerOf H bucket) 64 (shareOf H bucket) (callOf H bucket (multiKey l) s) t
   unfolding addTo after
-  many-table = chosen (addToNumber bucket l (length t) (length s)) _ _
+  many-table = success-test (addToNumber bucket l (length t) (length s)) _ _
 
   many-number : addTo H bucket l s t .number ≡ answerOf H bucket (multiKey l) t (length s)
   unfolding addTo

@@ -1,27 +1,25 @@
 -- Laws of the public calls' tests.
---     early-refused, early-passed     rows that are tested first, and rows that are tested late
---     avoids, first-avoids            a number that no row has is not answered
---     Clear, clear                    what a maker's answer of 0 says of its arguments
---     alike-none, alike-next, alike-all, alike-at, alike-fails, alike-ext     two functions agree below n
+--     rows         early-refused, first-front, early-passed: those that are tested first, and those that are tested late; avoids,
+--                  first-avoids: a number that no row has is not answered
+--     an image     image-refused, image-passed: a call on it as a whole
+--     alike        alike-none, alike-next, alike-all, alike-at, alike-fails, alike-ext: two functions agree below n
 -- Assumes nothing.
-use mathlib.Core.Path.{_≡_, refl, sym, ap₂, _∙_}
-use mathlib.Core.Bool.{Bool, true, false, cond}
+use mathlib.Core.Path.{_≡_, refl, sym, ap, ap₂, _∙_}
+use mathlib.Core.Bool.{Bool, true, false, not, cond}
 use mathlib.Core.Logic.{⊎-elim}
 use mathlib.Core.List.{List, [], _∷_, _++_}
-use Prim.Native.Nat.{ℕ, zero, suc, _+_, _≤_, _<_}
+use Prim.Native.Nat.{ℕ, zero, suc, _+_, _<_}
 use native.Mathlib.Nat.{eq-or-lt-of-le, le-of-suc-le-suc}
 use native.Mathlib.Numerals.{add-one}
 use native.Mathlib.Omega.{arith}
+use native.Mathlib.Decide.{ℕ-discrete}
 use lib.Dec.{T, eqb, ltb}
-use lib.ListN.{length}
-use borrow.Author.Tests.{ltb-true, ltb-false, eqb-true, eqb-false, eq-eqb, not-false}
-use Rattle.words.specs.Limits.{largestMulti, mostBuckets}
-use Rattle.words.specs.Refusals.{every, first}
+use borrow.Author.Tests.{ltb-true, eqb-true, eqb-false, eq-eqb, ne-eqb}
+use Rattle.words.specs.Cells.{zeroed}
+use Rattle.words.specs.Refusals.{Mismatch, every, first, onSuccess}
 use Rattle.words.proofs.TestLaws.{every-none, every-pass, every-at, first-miss, first-clear, numbered}
-use Rattle.placement.specs.Shares.{risingFrom}
-use Rattle.placement.specs.Calls.{walkIn}
-use Rattle.multi.specs.Rules.{pairs, wordsUsed}
-use Rattle.multi.specs.Calls.{Given, generateRoom, imageLength, functions, generateEarly, generateLate, generateNumber, alike}
+use Rattle.multi.specs.Calls.{alike, functionsIn, matches, late, scratchRead}
+use Rattle.multi.specs.Reading.{matchesBy, found}
 
 -- ---- rows in two parts
 
@@ -34,6 +32,11 @@ early-refused (row ∷ rows) late some = go (row .0) (early-refused rows late) s
         → cond t (row .1) (first (rows ++ late)) ≡ cond t (row .1) (first rows)
     go true rest some = refl
     go false rest some = rest some
+
+-- where nothing is answered, nothing was answered early
+pub first-front : (rows late : List (Bool × ℕ)) → first (rows ++ late) ≡ 0 → first rows ≡ 0
+first-front rows late e =
+    elim (ℕ-discrete (first rows) 0) [ yes z ↦ z | no some ↦ absurd (some (sym (early-refused rows late some) ∙ e)) ]
 
 rest : (t b : Bool) → T (cond t b false) → T b
 rest true b h = h
@@ -60,49 +63,53 @@ unfolding first
 first-avoids m [] h e = omega (arith, ltb-true 0 m (true-of (ltb 0 m) h))
 first-avoids m (row ∷ rows) h e = go (eqb (row .1) m) refl (row .0) (first-avoids m rows) h e
   where
-    go : (u : Bool) → eqb (row .1) m ≡ u → (t : Bool) → (T (avoids m rows) → first rows ≡ m → ⊥) → T (cond u false (avoids m rows))
+    go : (u : Bool) → eqb (row .1) m ≡ u → (t : Bool) → (T (avoids m rows) → first rows ≡ m → ⊥)
+        → T (cond u false (avoids m rows))
         → cond t (row .1) (first rows) ≡ m → ⊥
     go true q t rec h e = absurd h
     go false q true rec h e = eqb-false _ _ q e
     go false q false rec h e = rec h e
 
--- ---- what is given
+-- ---- a call on an image
 
-module _ (bucket : List ℕ → ℕ → ℕ → ℕ → ℕ) (g : Given) (len room0 room1 : ℕ) where
-  pub record Clear : Type 0 where
-    pub someCells : 1 ≤ g .domain
-    pub fewCells : g .domain ≤ largestMulti
-    pub someBuckets : 1 ≤ g .buckets
-    pub fewBuckets : g .buckets ≤ mostBuckets
-    pub somePoints : 1 ≤ length (g .points)
-    pub fewPoints : length (g .points) ≤ g .buckets
-    pub paired : length (g .values) ≡ length (g .points)
-    pub rising : risingFrom 0 (g .domain) (g .points) ≡ true
-    pub room : generateRoom g ≤ len
-    pub placed : walkIn (functions bucket g) (g .buckets) (g .points) .hand ≡ 0
-    pub worded : wordsUsed (functions bucket g) (g .domain) (g .buckets) ≤ pairs (g .words)
-    pub fits0 : imageLength (functions bucket g) (g .domain) (g .buckets) ≤ room0
-    pub fits1 : imageLength (functions bucket g) (g .domain) (g .buckets) ≤ room1
+-- its number, scratch and value at exit make up what it gives; the value is x on success, and o where it is refused
 
-  pub clear : generateNumber bucket g len room0 room1 ≡ 0 → Clear
-  unfolding generateNumber
-  clear e =
-      let rows = generateEarly g len ++ generateLate bucket g room0 room1 in
-      record {
-        someCells = ltb-false _ _ (first-clear rows 0 tt e);
-        fewCells = ltb-false _ _ (first-clear rows 1 tt e);
-        someBuckets = ltb-false _ _ (first-clear rows 2 tt e);
-        fewBuckets = ltb-false _ _ (first-clear rows 3 tt e);
-        somePoints = ltb-false _ _ (first-clear rows 4 tt e);
-        fewPoints = ltb-false _ _ (first-clear rows 5 tt e);
-        paired = eqb-true _ _ (not-false _ (first-clear rows 6 tt e));
-        rising = not-false _ (first-clear rows 7 tt e);
-        room = ltb-false _ _ (first-clear rows 8 tt e);
-        placed = eqb-true _ _ (not-false _ (first-clear rows 9 tt e));
-        worded = ltb-false _ _ (first-clear rows 10 tt e);
-        fits0 = ltb-false _ _ (first-clear rows 11 tt e);
-        fits1 = ltb-false _ _ (first-clear rows 12 tt e);
-      }
+module _ {A X : Type 0} (make : ℕ → List ℕ → X → A) (bucket : List ℕ → ℕ → ℕ → ℕ → ℕ) (l : List ℕ) (early : List (Bool × ℕ))
+    (need : ℕ)
+    (s : List ℕ) (x o : X) where
+  -- by its number
+  abbrev numbering : ℕ → A
+  numbering n = make n (scratchRead n need s) (onSuccess n x o)
+
+  abbrev called : A
+  called = numbering (first (early ++ late bucket l))
+
+  pub image-refused : (n : ℕ) → T (avoids Mismatch early) → n ≡ first early → (n ≡ 0 → ⊥) → make n s o ≡ called
+  image-refused n away e some =
+      let same : first (early ++ late bucket l) ≡ n = early-refused early (late bucket l) (λ z. some (e ∙ z)) ∙ sym e in
+      sym (ap numbering same ∙ go n some (λ z. first-avoids Mismatch early away (sym e ∙ z)))
+    where
+      go : (k : ℕ) → (k ≡ 0 → ⊥) → (k ≡ Mismatch → ⊥) → numbering k ≡ make k s o
+      go zero some other = absurd (some refl)
+      go (suc k) some other = rw (ne-eqb (suc k) Mismatch other)
+
+  -- the late test
+  late-is : T (numbered early) → first early ≡ 0 → first (early ++ late bucket l) ≡ found (functionsIn bucket l) l
+  unfolding matches first
+  late-is fair e = early-passed early (late bucket l) fair e ∙ go (matchesBy (functionsIn bucket l) l)
+    where
+      go : (t : Bool) → cond (not t) Mismatch 0 ≡ cond t 0 Mismatch
+      go true = refl
+      go false = refl
+
+  pub image-passed : T (numbered early) → first early ≡ 0 → (r : ℕ) (m : List ℕ) (y : X)
+      → (r ≡ found (functionsIn bucket l) l) × ((m ≡ zeroed need s) × (y ≡ cond (matchesBy (functionsIn bucket l) l) x o))
+      → make r m y ≡ called
+  image-passed fair e r m y q = rw (q .0, q .1 .0, q .1 .1, late-is fair e) (go (matchesBy (functionsIn bucket l) l))
+    where
+      go : (t : Bool) → make (cond t 0 Mismatch) (zeroed need s) (cond t x o) ≡ numbering (cond t 0 Mismatch)
+      go true = refl
+      go false = refl
 
 -- ---- two functions that agree
 
@@ -126,7 +133,8 @@ module _ (f g : ℕ → ℕ) where
   alike-at zero i e l = let z : ⊥ = omega arith in absurd z
   alike-at (suc n) i e l =
       let ts = alike f g n ∷ eqb (f n) (g n) ∷ [] in
-      ⊎-elim (λ same. rw same (eqb-true _ _ (every-at ts 1 e))) (λ less. alike-at n i (every-at ts 0 e) less) (eq-or-lt-of-le (le-of-suc-le-suc l))
+      ⊎-elim (λ same. rw same (eqb-true _ _ (every-at ts 1 e))) (λ less. alike-at n i (every-at ts 0 e) less)
+      (eq-or-lt-of-le (le-of-suc-le-suc l))
 
   pub alike-fails : (n i : ℕ) → i < n → (f i ≡ g i → ⊥) → alike f g n ≡ false
   alike-fails n i l other = go (alike f g n) refl
@@ -140,4 +148,5 @@ pub alike-ext : (f g k : ℕ → ℕ) (n : ℕ) → ((i : ℕ) → i < n → g i
 unfolding alike
 alike-ext f g k zero same = refl
 alike-ext f g k (suc n) same =
-    ap₂ (λ (t : Bool) (x : ℕ). every (t ∷ eqb (f n) x ∷ [])) (alike-ext f g k n (λ i l. same i (omega arith))) (same n (omega arith))
+    ap₂ (λ (t : Bool) (x : ℕ). every (t ∷ eqb (f n) x ∷ [])) (alike-ext f g k n (λ i l. same i (omega arith)))
+    (same n (omega arith))

@@ -33,16 +33,19 @@ module _ (part : ℕ → List ℕ) (size : ℕ → ℕ) where
     pub length-parts : (b : ℕ) → b ≤ n → length (parts part b) ≡ 2 * sumTo b size
     unfolding parts sumTo
     length-parts zero h = refl
-    length-parts (suc b) h = length-append (parts part b) (part b) ∙ omega (arith, length-parts b (omega arith), long b (omega arith))
+    length-parts (suc b) h =
+        length-append (parts part b) (part b) ∙ omega (arith, length-parts b (omega arith), long b (omega arith))
 
-    pub parts-at : (b c i : ℕ) → b ≤ n → c < b → i < 2 * size c → getD (parts part b) (2 * sumTo c size + i) 0 ≡ getD (part c) i 0
+    pub parts-at : (b c i : ℕ) → b ≤ n → c < b → i < 2 * size c
+        → getD (parts part b) (2 * sumTo c size + i) 0 ≡ getD (part c) i 0
     unfolding parts sumTo
     parts-at zero c i h below inside = let z : ⊥ = omega arith in absurd z
     parts-at (suc b) c i h below inside =
         ⊎-elim
         (λ e. rw e (here b (omega (arith, ap (λ (k : ℕ). 2 * size k) e)) (omega arith)))
         (λ less.
-        List·getD-append (parts part b) (part b) 0 (2 * sumTo c size + i) (omega (arith, length-parts b (omega arith), room c b less))
+        List·getD-append (parts part b) (part b) 0 (2 * sumTo c size + i)
+        (omega (arith, length-parts b (omega arith), room c b less))
         ∙ parts-at b c i (omega arith) less inside)
         (eq-or-lt-of-le (le-of-suc-le-suc below))
       where
@@ -53,13 +56,15 @@ module _ (part : ℕ → List ℕ) (size : ℕ → ℕ) where
 
         room : (c b : ℕ) → c < b → sumTo c size + size c ≤ sumTo b size
         room c zero l = let z : ⊥ = omega arith in absurd z
-        room c (suc b) l = ⊎-elim (λ e. rw e (omega arith)) (λ less. omega (arith, room c b less)) (eq-or-lt-of-le (le-of-suc-le-suc l))
+        room c (suc b) l =
+            ⊎-elim (λ e. rw e (omega arith)) (λ less. omega (arith, room c b less)) (eq-or-lt-of-le (le-of-suc-le-suc l))
 
 -- ---- shares
 
 -- the slice l has the starts in front, and behind 2B elements room for all entries
 module _ (h : ℕ → ℕ → ℕ) (D B : ℕ) (low : (k x : ℕ) → k < 3 → x < D → h k x < B) (l : List ℕ) (room : B + B + 6 * D ≤ length l)
-    (starts : (c : ℕ) → c < B → getD l c 0 ≡ startOf h D c) (part : ℕ → List ℕ) (long : (c : ℕ) → c < B → length (part c) ≡ 2 * sizeOf h D c)
+    (starts : (c : ℕ) → c < B → getD l c 0 ≡ startOf h D c) (part : ℕ → List ℕ)
+    (long : (c : ℕ) → c < B → length (part c) ≡ 2 * sizeOf h D c)
     (f : ℕ → ℕ → ℕ) (each : (c y : ℕ) → c < B → y < sizeOf h D c → getD (part c) (2 * y) 0 ≡ f c y) where
   -- entry y of bucket c
   entry-is : (c y : ℕ) → c < B → y < sizeOf h D c → entryAt B (put l (B + B) (parts part B)) c y ≡ f c y
@@ -68,7 +73,8 @@ module _ (h : ℕ → ℕ → ℕ) (D B : ℕ) (low : (k x : ℕ) → k < 3 → 
       let all = length-parts part (sizeOf h D) B long B (omega arith) in
       let sum = sizes-sum h B D low in
       let end = start-end h B D c low below in
-      let start : getD (put l (B + B) (parts part B)) c 0 ≡ startOf h D c = put-other l (B + B) (parts part B) c (omega arith) (inl (omega arith)) ∙ starts c below in
+      let start : getD (put l (B + B) (parts part B)) c 0 ≡ startOf h D c =
+      put-other l (B + B) (parts part B) c (omega arith) (inl (omega arith)) ∙ starts c below in
       let at : B + B + (startOf h D c + y) * 2 ≡ B + B + (2 * sumTo c (sizeOf h D) + 2 * y) = omega arith in
       ap (λ (s : ℕ). getD (put l (B + B) (parts part B)) (B + B + (s + y) * 2) 0) start
       ∙ ap (λ (k : ℕ). getD (put l (B + B) (parts part B)) k 0) at
@@ -77,7 +83,8 @@ module _ (h : ℕ → ℕ → ℕ) (D B : ℕ) (low : (k x : ℕ) → k < 3 → 
       ∙ each c y below inside
 
   pub gathered-share : (x : ℕ) → x < D → gathered h D B (put l (B + B) (parts part B)) x
-      ≡ shareOver 64 (h 0 x) (h 1 x) (h 2 x) (f (h 0 x) (posOf h D (h 0 x) x)) (f (h 1 x) (posOf h D (h 1 x) x)) (f (h 2 x) (posOf h D (h 2 x) x))
+      ≡ shareOver 64 (h 0 x) (h 1 x) (h 2 x) (f (h 0 x) (posOf h D (h 0 x) x)) (f (h 1 x) (posOf h D (h 1 x) x))
+      (f (h 2 x) (posOf h D (h 2 x) x))
   unfolding gathered overBuckets once3 shareOver
   gathered-share x lx =
       let at : (c : ℕ) → c < B → Enters h c x → entryAt B (put l (B + B) (parts part B)) c (posOf h D c x) ≡ f c (posOf h D c x) =

@@ -1,4 +1,5 @@
--- The known sums hold: the rows of the layers below are proved there, the others by computation. Assumes nothing.
+-- The known sums hold: the rows of the layers below are proved there, the others by computation, with the definitions of words,
+-- single, placement and multi unfolded, in this order. Assumes nothing.
 use mathlib.Core.Path.{refl}
 use mathlib.Core.Bool.{xor}
 use lib.Count.{leadingZeros}
@@ -18,12 +19,19 @@ use Rattle.placement.specs.Shares.{atPoints, alphaOf, betaOf, risingFrom}
 use Rattle.placement.specs.Calls.{walkIn, placeRows, placeable, placeNumber}
 use Rattle.placement.proofs.KnownSums as placement
 use Rattle.multi.specs.Rules.{usedBefore, madeRecord}
-use Rattle.multi.specs.Image.{startOf, headerBytes, entryFor, directoryBytes, recordsBytes, multiBytes, bytesOf}
+use Rattle.multi.specs.Image.{recordStart, headerBytes, entryFor, directoryBytes, recordsBytes, multiBytes, bytesOf}
 use Rattle.multi.specs.Calls.{imageLength, generateNumber, imageMade}
 use Rattle.multi.specs.KnownSums.{KnownSums}
 
 pub known-sums : KnownSums
-unfolding leadingZeros xor _⊕_ _when_ is-odd bit odd clear mark shift add sub low conv leBytes wordBytes sumTo height heightNumber every first step descend final correction corrections split hcwOf lcwOf lastWord start levels before highWord lowBit reached tall made lcwNumber headBytes wordsBytes recordBytes recordLength lengthFor onceIf firstAt adds listOf sizeOf posOf nextFn takeUp unplaced goesTo stepOf insertOf pointOf walkFrom walkOf atPoints alphaOf betaOf risingFrom walkIn placeRows placeable placeNumber wordNo usedBefore madeRecord startOf headerBytes entryFor directoryBytes recordsBytes multiBytes bytesOf imageLength generateNumber imageMade
+unfolding leadingZeros xor _⊕_ _when_ is-odd bit odd clear mark shift add sub low conv leBytes wordBytes sumTo wordNo
+    height heightNumber every first
+    step descend final correction corrections split hcwOf lcwOf lastWord start levels before highWord lowBit reached tall made
+    lcwNumber headBytes wordsBytes recordBytes recordLength lengthFor
+    onceIf firstAt adds listOf sizeOf posOf nextFn takeUp unplaced goesTo stepOf insertOf pointOf walkFrom walkOf atPoints
+    alphaOf betaOf risingFrom walkIn placeRows placeable placeNumber
+    usedBefore madeRecord recordStart headerBytes entryFor directoryBytes recordsBytes multiBytes bytesOf imageLength
+    generateNumber imageMade
 known-sums = record {
   words = words.known-sums;
   single = single.known-sums;

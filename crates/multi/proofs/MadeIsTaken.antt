@@ -14,13 +14,14 @@ use Rattle.single.proofs.MadeIsTaken as oneTaken
 use Rattle.multi.specs.Calls.{imageMade, addToNumber}
 use Rattle.multi.specs.Promises.{Below}
 use Rattle.multi.specs.Demand.{answerOf, shareOf, Pair, onePoint, manyPoints, imageOf, roomFor, MadeIsTaken}
-use Rattle.multi.proofs.CallLaws.{clear}
+use Rattle.multi.proofs.GivenLaws.{given-early}
 use Rattle.multi.proofs.MadeKeysRead.{made-keys-read}
-use Rattle.multi.proofs.PairsAddUp.{one-limits, one-posting}
 use Rattle.multi.proofs.RunsExist.{runs-exist}
+use Rattle.multi.proofs.PairsAddUp.{one-limits, one-posting}
 
 module _ (H : Word → Word) (on : On128 H) (bucket : List ℕ → ℕ → ℕ → ℕ → ℕ) (low : Below bucket) (D : ℕ) (p : Bool) where
-  taken-one : (q : Pair H bucket D) (t : List ℕ) (room : ℕ) → length t ≡ D → roomFor H bucket D q ≤ room → answerOf H bucket (imageOf H bucket D p q) t room ≡ 0
+  taken-one : (q : Pair H bucket D) (t : List ℕ) (room : ℕ) → length t ≡ D → roomFor H bucket D q ≤ room
+      → answerOf H bucket (imageOf H bucket D p q) t room ≡ 0
   taken-one (onePoint q) t room e fits =
       let lim = one-limits D q in
       let made = one-posting H D q in
@@ -33,7 +34,7 @@ module _ (H : Word → Word) (on : On128 H) (bucket : List ℕ → ℕ → ℕ �
   -- the most scratch that any pair needs
   room-most : (q : Pair H bucket D) → roomFor H bucket D q ≤ 6 * D + 2 * mostBuckets
   room-most (onePoint q) = omega arith
-  room-most (manyPoints g a s) = omega (arith, clear bucket g (a .scratch) (a .room0) (a .room1) (a .number) .fewBuckets)
+  room-most (manyPoints g a s) = omega (arith, given-early bucket g (a .scratch) (a .room0) (a .room1) (a .number) .fewBuckets)
 
 pub made-is-taken : MadeIsTaken
 made-is-taken = record {

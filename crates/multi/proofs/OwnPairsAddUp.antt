@@ -1,4 +1,5 @@
--- The tree hash keeps to words of 128 bits and a bucket is below their number, so demand 3 holds of the library's own functions.
+-- The tree hash keeps to words of 128 bits and a bucket is below their number, so demand 3 holds of the library's own
+-- functions.
 -- Assumes nothing.
 use Rattle.cipher.specs.TreeHash.{treeHash}
 use Rattle.cipher.proofs.HashesFit.{hashes-fit}

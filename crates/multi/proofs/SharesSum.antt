@@ -4,19 +4,18 @@
 --     alpha-lt       a record's point lies in its bucket
 --     bucket-adds    one bucket's two shares
 -- Assumes nothing.
-use mathlib.Core.Path.{_≡_, refl, sym, ap, _∙_}
-use mathlib.Core.Bool.{Bool, true, false, cond}
+use mathlib.Core.Path.{_≡_, refl}
+use mathlib.Core.Bool.{Bool, true, false}
 use mathlib.Core.List.{List}
 use Prim.Native.Nat.{ℕ, zero, suc, _+_, _*_, _%_, _^_, _≤_, _<_}
 use native.Mathlib.Omega.{arith}
-use lib.Dec.{eqb}
 use lib.ListN.{getD, length}
 use Rattle.words.specs.declared.Word.{Word}
 use Rattle.words.specs.Cells.{wordNo}
 use Rattle.single.specs.Rules.{share, point}
 use Rattle.single.proofs.SharesSum as one
 use Rattle.placement.specs.Buckets.{sizeOf, posOf, Enters}
-use Rattle.placement.specs.Walk.{Placement, walkOf}
+use Rattle.placement.specs.Walk.{Placement}
 use Rattle.placement.specs.Shares.{once3, overBuckets, atPoints, posted, alphaOf, betaOf, heldAt, Rising}
 use Rattle.placement.proofs.BucketLaws.{pos-lt, size-le}
 use Rattle.placement.proofs.ShareLaws.{alpha-none, alpha-held, sum-shares}
@@ -44,14 +43,16 @@ module _ (H : Word → Word) (w : ℕ) (h : ℕ → ℕ → ℕ) (D : ℕ) (pts 
             rw (alpha-held h D pts t b q e) (pos-lt h b (getD pts q 0) D (rising .low q (at .0)) (at .1))
 
     bucket-adds : 3 * D ≤ 2 ^ 64 → (x : ℕ) → x < D → (b : ℕ) → Enters h b x
-        → (share H w false (madeRecord H w h D pts vs t ws false b) (posOf h D b x) + share H w true (madeRecord H w h D pts vs t ws true b) (posOf h D b x)) % 2 ^ w
+        → (share H w false (madeRecord H w h D pts vs t ws false b) (posOf h D b x)
+        + share H w true (madeRecord H w h D pts vs t ws true b) (posOf h D b x)) % 2 ^ w
         ≡ heldAt h D pts vs t b (posOf h D b x) % 2 ^ w
     unfolding heldAt point
     bucket-adds small x lx b e =
         let inside = pos-lt h b x D lx e in
         let some : 0 < sizeOf h D b = omega arith in
         rw (made-some H w h D pts vs t ws false b some, made-some H w h D pts vs t ws true b some)
-        (one.shares-sum H w (sizeOf h D b) (alphaOf h D pts t b) (betaOf vs t b) (wordNo ws (usedBefore h D b)) (wordNo ws (usedBefore h D b + 1))
+        (one.shares-sum H w (sizeOf h D b) (alphaOf h D pts t b) (betaOf vs t b) (wordNo ws (usedBefore h D b))
+        (wordNo ws (usedBefore h D b + 1))
         (omega (arith, size-le h b D)) (alpha-lt b some) (posOf h D b x) inside)
 
     pub sum-placed : 3 * D ≤ 2 ^ 64 → length vs ≡ length pts → (x : ℕ) → x < D

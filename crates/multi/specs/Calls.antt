@@ -1,6 +1,6 @@
--- The public calls of multi keys (document 01, "Refusal numbers" and "Numbers"): the answer and every lent slice at exit, together,
--- as one function of what a call is given. H is the tree hash, and `bucket ks B k x` the bucket of cell x by function k among B
--- buckets under the hash keys ks; the code's own are put in where a contract cites these. l is an image.
+-- The public calls of multi keys (document 01, "Refusal numbers" and "Numbers"): the answer and every lent slice at exit,
+-- together, as one function of what a call is given. H is the tree hash, and `bucket ks B k x` the bucket of cell x by function
+-- k among B buckets under the hash keys ks; the code's own are put in where a contract cites these. l is an image.
 --     Given, functions     what making is given; the bucket functions of its hash keys
 --     imageLength h D B    the bytes of a made image, by the sizes of the buckets
 --     generateKeys         making a pair: 1 to 8; imageMade: party p's image
@@ -11,30 +11,31 @@
 --     evaluateDomain       all cells: 9, 5, 8, 12
 --     addTo                all cells added to a table: 9, 11, 5, 12
 --     CallsDetermined      any two results that meet a call's promise are equal
--- Each has its tests in the order of the refusals, in two parts: those that come before anything is written (..Early), and those
--- that are made with sizes in scratch; then the number answered (..Number) and its promise (Generates, ..). Handing out a bucket's
--- record is `recordNumber`, `placeOf` and `recordGiven` of Image. Assumes nothing.
+-- Each has its tests in the order of the refusals, in two parts: those that come before anything is written (..Early), and
+-- those that are made with sizes in scratch; then the number answered (..Number) and its promise (Generates, ..). Handing out a
+-- bucket's record is `recordNumber`, `placeOf` and `recordGiven` of Image. Assumes nothing.
 use mathlib.Core.Path.{_≡_}
 use mathlib.Core.Bool.{Bool, true, false, not, cond}
 use mathlib.Core.List.{List, [], _∷_, _++_}
 use Prim.Native.Nat.{ℕ, zero, suc, _+_, _*_}
 use lib.Dec.{eqb, leb, ltb}
 use lib.ListN.{length}
-use Rattle.words.specs.Limits.{largestMulti, mostBuckets}
 use Rattle.words.specs.declared.Word.{Word}
 use Rattle.words.specs.Bytes.{put}
 use Rattle.words.specs.Cells.{tab, added, zeroed}
-use Rattle.words.specs.Refusals.{Domain, Buckets, Count, Point, Scratch, Place, Words, Room, Key, Index, Table, Mismatch, every, first, onSuccess}
+use Rattle.words.specs.Refusals.{Count, Point, Scratch, Place, Words, Room, Key, Index, Table, Mismatch, every, first, onSuccess}
 use Rattle.single.specs.Rules.{Record}
 use Rattle.single.specs.Record.{lengthFor}
+-- the number of a call over all cells, and scratch and output, or scratch and table, at exit
+pub use Rattle.single.specs.Calls.{Swept, swept}
 use Rattle.placement.specs.Buckets.{sizeOf}
 use Rattle.placement.specs.Shares.{risingFrom}
-use Rattle.placement.specs.Calls.{walkIn}
+use Rattle.placement.specs.Calls.{limitRows, walkIn}
 use Rattle.multi.specs.declared.calls.Generated.{Generated}
 use Rattle.multi.specs.declared.calls.Share.{Share}
 use Rattle.multi.specs.declared.image.RecordPlace.{RecordPlace}
 use Rattle.multi.specs.Rules.{multiShare, pairs, wordsUsed, madeRecord}
-use Rattle.multi.specs.Image.{multiLength, multiBytes, bytesOf, partyIn, bucketsIn, domainIn, keysIn, recordOf, sizeIn, multiOk, recordNumber, placeOf, recordGiven}
+use Rattle.multi.specs.Image.{multiLength, multiBytes, bytesOf, partyIn, bucketsIn, domainIn, keysIn, bucketRecord, bucketSize, multiOk, recordNumber, placeOf, recordGiven}
 
 -- ---- making a pair
 
@@ -60,16 +61,13 @@ imageLength h D B = multiLength B (λ c. lengthFor (sizeOf h D c))
 -- what is given, and the length of scratch
 abbrev pub generateEarly : Given → ℕ → List (Bool × ℕ)
 generateEarly g scratch =
-    (ltb (g .domain) 1, Domain)
-    ∷ (ltb largestMulti (g .domain), Domain)
-    ∷ (ltb (g .buckets) 1, Buckets)
-    ∷ (ltb mostBuckets (g .buckets), Buckets)
-    ∷ (ltb (length (g .points)) 1, Count)
+    limitRows (g .domain) (g .buckets)
+    ++ ((ltb (length (g .points)) 1, Count)
     ∷ (ltb (g .buckets) (length (g .points)), Count)
     ∷ (not (eqb (length (g .values)) (length (g .points))), Count)
     ∷ (not (risingFrom 0 (g .domain) (g .points)), Point)
     ∷ (ltb scratch (generateRoom g), Scratch)
-    ∷ []
+    ∷ [])
 
 module _ (bucket : List ℕ → ℕ → ℕ → ℕ → ℕ) where
   abbrev pub functions : Given → ℕ → ℕ → ℕ
@@ -109,7 +107,8 @@ module _ (H : Word → Word) (bucket : List ℕ → ℕ → ℕ → ℕ → ℕ)
       madeRecord H 64 h (g .domain) (g .points) (g .values) (walkIn h (g .buckets) (g .points) .table) (g .words) p b
 
   unfoldable pub imageMade : Given → Bool → List ℕ
-  imageMade g p = multiBytes (cond p 1 0) (g .buckets) (g .domain) (length (g .points)) (g .keys) (λ b. bytesOf (recordMade g p b))
+  imageMade g p =
+      multiBytes (cond p 1 0) (g .buckets) (g .domain) (length (g .points)) (g .keys) (λ b. bytesOf (recordMade g p b))
 
   unfoldable pub generateKeys : Given → List ℕ → List ℕ → List ℕ → Generating
   generateKeys g s k0 k1 =
@@ -145,14 +144,14 @@ module _ (bucket : List ℕ → ℕ → ℕ → ℕ → ℕ) where
   functionsIn l = bucket (keysIn l) (bucketsIn l)
 
   unfoldable pub matches : List ℕ → Bool
-  matches l = alike (sizeIn l) (sizeOf (functionsIn l) (domainIn l)) (bucketsIn l)
+  matches l = alike (bucketSize l) (sizeOf (functionsIn l) (domainIn l)) (bucketsIn l)
 
   -- found with the sizes in scratch
   abbrev pub late : List ℕ → List (Bool × ℕ)
   late l = (not (matches l), Mismatch) ∷ []
 
 unfoldable pub shareIn : (Word → Word) → (List ℕ → ℕ → ℕ → ℕ → ℕ) → List ℕ → ℕ → ℕ
-shareIn H bucket l x = multiShare H 64 (sideIn l) (recordOf l) (functionsIn bucket l) (domainIn l) x
+shareIn H bucket l x = multiShare H 64 (sideIn l) (bucketRecord l) (functionsIn bucket l) (domainIn l) x
 
 -- scratch is zeroed, as far as it was needed, on success and on 12
 abbrev pub scratchRead : ℕ → ℕ → List ℕ → List ℕ
@@ -192,54 +191,38 @@ domainRoom l = 6 * domainIn l + 2 * bucketsIn l
 
 -- an image, and the lengths of scratch and output
 abbrev pub evaluateDomainEarly : List ℕ → ℕ → ℕ → List (Bool × ℕ)
-evaluateDomainEarly l scratch room = (not (multiOk l), Key) ∷ (ltb scratch (domainRoom l), Scratch) ∷ (ltb room (domainIn l), Room) ∷ []
+evaluateDomainEarly l scratch room =
+    (not (multiOk l), Key) ∷ (ltb scratch (domainRoom l), Scratch) ∷ (ltb room (domainIn l), Room) ∷ []
 
 unfoldable pub evaluateDomainNumber : (List ℕ → ℕ → ℕ → ℕ → ℕ) → List ℕ → ℕ → ℕ → ℕ
 evaluateDomainNumber bucket l scratch room = first (evaluateDomainEarly l scratch room ++ late bucket l)
 
--- the number, and scratch and output at exit
-pub record Evaluating : Type 0 where
-  pub number : ℕ
-  pub scratch : List ℕ
-  pub out : List ℕ
-
-abbrev pub evaluating : ℕ → List ℕ → List ℕ → Evaluating
-evaluating n s o = record { number = n; scratch = s; out = o }
-
 module _ (H : Word → Word) (bucket : List ℕ → ℕ → ℕ → ℕ → ℕ) where
-  unfoldable pub evaluateDomain : List ℕ → List ℕ → List ℕ → Evaluating
+  unfoldable pub evaluateDomain : List ℕ → List ℕ → List ℕ → Swept
   evaluateDomain l s o =
       let n = evaluateDomainNumber bucket l (length s) (length o) in
-      evaluating n (scratchRead n (domainRoom l) s) (onSuccess n (put o 0 (tab (shareIn H bucket l) (domainIn l))) o)
+      swept n (scratchRead n (domainRoom l) s) (onSuccess n (put o 0 (tab (shareIn H bucket l) (domainIn l))) o)
 
-  abbrev pub EvaluatesDomain : List ℕ → List ℕ → List ℕ → Evaluating → Type 0
+  abbrev pub EvaluatesDomain : List ℕ → List ℕ → List ℕ → Swept → Type 0
   EvaluatesDomain l s o r = r ≡ evaluateDomain l s o
 
 -- ---- adding to a table
 
 -- an image, and the lengths of table and scratch
 abbrev pub addToEarly : List ℕ → ℕ → ℕ → List (Bool × ℕ)
-addToEarly l cells scratch = (not (multiOk l), Key) ∷ (not (eqb cells (domainIn l)), Table) ∷ (ltb scratch (domainRoom l), Scratch) ∷ []
+addToEarly l cells scratch =
+    (not (multiOk l), Key) ∷ (not (eqb cells (domainIn l)), Table) ∷ (ltb scratch (domainRoom l), Scratch) ∷ []
 
 unfoldable pub addToNumber : (List ℕ → ℕ → ℕ → ℕ → ℕ) → List ℕ → ℕ → ℕ → ℕ
 addToNumber bucket l cells scratch = first (addToEarly l cells scratch ++ late bucket l)
 
--- the number, and scratch and table at exit
-pub record Adding : Type 0 where
-  pub number : ℕ
-  pub scratch : List ℕ
-  pub table : List ℕ
-
-abbrev pub adding : ℕ → List ℕ → List ℕ → Adding
-adding n s t = record { number = n; scratch = s; table = t }
-
 module _ (H : Word → Word) (bucket : List ℕ → ℕ → ℕ → ℕ → ℕ) where
-  unfoldable pub addTo : List ℕ → List ℕ → List ℕ → Adding
+  unfoldable pub addTo : List ℕ → List ℕ → List ℕ → Swept
   addTo l s t =
       let n = addToNumber bucket l (length t) (length s) in
-      adding n (scratchRead n (domainRoom l) s) (onSuccess n (added 64 (shareIn H bucket l) t) t)
+      swept n (scratchRead n (domainRoom l) s) (onSuccess n (added 64 (shareIn H bucket l) t) t)
 
-  abbrev pub AddsTo : List ℕ → List ℕ → List ℕ → Adding → Type 0
+  abbrev pub AddsTo : List ℕ → List ℕ → List ℕ → Swept → Type 0
   AddsTo l s t r = r ≡ addTo l s t
 
 -- ---- the promises leave no choice
@@ -247,8 +230,8 @@ module _ (H : Word → Word) (bucket : List ℕ → ℕ → ℕ → ℕ → ℕ)
 pub record CallsDetermined (H : Word → Word) (bucket : List ℕ → ℕ → ℕ → ℕ → ℕ) : Type 0 where
   pub making : (g : Given) (s k0 k1 : List ℕ) (q r : Generating) → Generates H bucket g s k0 k1 q → Generates H bucket g s k0 k1 r → q ≡ r
   pub oneCell : (l : List ℕ) (x : ℕ) (s : List ℕ) (q r : Reading) → EvaluatesAt H bucket l x s q → EvaluatesAt H bucket l x s r → q ≡ r
-  pub allCells : (l s o : List ℕ) (q r : Evaluating) → EvaluatesDomain H bucket l s o q → EvaluatesDomain H bucket l s o r → q ≡ r
-  pub table : (l s t : List ℕ) (q r : Adding) → AddsTo H bucket l s t q → AddsTo H bucket l s t r → q ≡ r
+  pub allCells : (l s o : List ℕ) (q r : Swept) → EvaluatesDomain H bucket l s o q → EvaluatesDomain H bucket l s o r → q ≡ r
+  pub table : (l s t : List ℕ) (q r : Swept) → AddsTo H bucket l s t q → AddsTo H bucket l s t r → q ≡ r
   -- handing out a bucket's record: the number, the part of the image, and where it stands
   pub recordNo : (l : List ℕ) (c q r : ℕ) → q ≡ recordNumber l c → r ≡ recordNumber l c → q ≡ r
   pub recordHanded : (l : List ℕ) (c : ℕ) (q r : List ℕ) → q ≡ recordGiven l c → r ≡ recordGiven l c → q ≡ r

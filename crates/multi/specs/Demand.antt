@@ -1,5 +1,5 @@
--- Demand 3 for key images as bytes, single and multi mixed in one list, over the very functions that the calls' contracts cite, and
--- that it is no empty promise. Each claim is proved in the file of proofs/ that has its name. H is the tree hash, and
+-- Demand 3 for key images as bytes, single and multi mixed in one list, over the very functions that the calls' contracts cite,
+-- and that it is no empty promise. Each claim is proved in the file of proofs/ that has its name. H is the tree hash, and
 -- `bucket ks B k x` the bucket of cell x by function k among B buckets under the hash keys ks.
 --     Image                 an image for one of the two adding calls
 --     answerOf, shareOf     the number that the adding call answers; the share of a cell that the key gives
@@ -8,7 +8,8 @@
 --     postedBy, imageOf     the value that a pair posts at a cell; party p's image
 --     PairsAddUp            demand 3 for lists of pairs of either kind
 --     OwnPairsAddUp         the same of the library's own tree hash and bucket functions: nothing is left to assume
---     MadeIsTaken           a made image is taken where table and scratch fit, so that the runs which demand 3 speaks of are there
+--     MadeIsTaken           a made image is taken where table and scratch fit, so that the runs which demand 3 speaks of are
+--                           there
 -- Assumes nothing.
 use mathlib.Core.Path.{_≡_}
 use mathlib.Core.Bool.{Bool}
@@ -59,9 +60,9 @@ module _ (H : Word → Word) (bucket : List ℕ → ℕ → ℕ → ℕ → ℕ)
   -- the contracts of the two adding calls are one step of a run
   pub record AddingCounts : Type 0 where
     pub oneNumber : (l s t : List ℕ) → one.addTo H l s t .number ≡ answerOf (singleKey l) t (length s)
-    pub oneTable : (l s t : List ℕ) → one.addTo H l s t .table ≡ after answerOf 64 shareOf (callOf (singleKey l) s) t
+    pub oneTable : (l s t : List ℕ) → one.addTo H l s t .cells ≡ after answerOf 64 shareOf (callOf (singleKey l) s) t
     pub manyNumber : (l s t : List ℕ) → addTo H bucket l s t .number ≡ answerOf (multiKey l) t (length s)
-    pub manyTable : (l s t : List ℕ) → addTo H bucket l s t .table ≡ after answerOf 64 shareOf (callOf (multiKey l) s) t
+    pub manyTable : (l s t : List ℕ) → addTo H bucket l s t .cells ≡ after answerOf 64 shareOf (callOf (multiKey l) s) t
 
   -- ---- pairs that the two makers made
 
@@ -88,13 +89,18 @@ PairsAddUp = (H : Word → Word) → On128 H → (bucket : List ℕ → ℕ → 
     → Demand3 (answerOf H bucket) 64 (shareOf H bucket) (imageOf H bucket D) (postedBy H bucket D) D
 
 pub record MadeIsTaken : Type 0 where
-  pub taken : (H : Word → Word) → On128 H → (bucket : List ℕ → ℕ → ℕ → ℕ → ℕ) → Below bucket → (D : ℕ) (p : Bool) (q : Pair H bucket D) (t : List ℕ) (room : ℕ)
+  pub taken : (H : Word → Word) → On128 H → (bucket : List ℕ → ℕ → ℕ → ℕ → ℕ) → Below bucket
+      → (D : ℕ) (p : Bool) (q : Pair H bucket D) (t : List ℕ) (room : ℕ)
       → length t ≡ D → roomFor H bucket D q ≤ room → answerOf H bucket (imageOf H bucket D p q) t room ≡ 0
   -- a run over any list of pairs, with the scratch that the most buckets need, takes each image of a party, in their order
-  pub runs : (H : Word → Word) → On128 H → (bucket : List ℕ → ℕ → ℕ → ℕ → ℕ) → Below bucket → (D room : ℕ) (p : Bool) (qs : List (Pair H bucket D)) (t : List ℕ)
+  pub runs : (H : Word → Word) → On128 H → (bucket : List ℕ → ℕ → ℕ → ℕ → ℕ) → Below bucket
+      → (D room : ℕ) (p : Bool) (qs : List (Pair H bucket D)) (t : List ℕ)
       → length t ≡ D → 6 * D + 2 * mostBuckets ≤ room
-      → takenBy (answerOf H bucket) 64 (shareOf H bucket) (calls (imageOf H bucket D p) room qs) t ≡ map (imageOf H bucket D p) qs
+      → takenBy (answerOf H bucket) 64 (shareOf H bucket) (calls (imageOf H bucket D p) room qs) t
+      ≡ map (imageOf H bucket D p) qs
 
 -- the library's own tree hash and bucket functions: nothing is left to assume
 abbrev pub OwnPairsAddUp : Type 0
-OwnPairsAddUp = (D : ℕ) → Demand3 (answerOf treeHash bucketOf) 64 (shareOf treeHash bucketOf) (imageOf treeHash bucketOf D) (postedBy treeHash bucketOf D) D
+OwnPairsAddUp =
+    (D : ℕ) → Demand3 (answerOf treeHash bucketOf) 64 (shareOf treeHash bucketOf) (imageOf treeHash bucketOf D)
+    (postedBy treeHash bucketOf D) D

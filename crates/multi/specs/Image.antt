@@ -8,14 +8,14 @@
 --         24    48  three hash keys of 16 bytes
 --         72    8B  the directory: for each bucket 0, or where its record begins
 --      72+8B        the records in bucket order, without gaps, up to the end of the image
---     startOf b lens c               where the record of bucket c begins, among b buckets whose records have these lengths
+--     recordStart b lens c           where the record of bucket c begins, among b buckets whose records have these lengths
 --     multiLength b lens             the length of the image; lengthsBy sizes: the lengths of the records of these sizes
 --     headerBytes, directoryBytes    the 72 bytes of the header; the entries of the first buckets
 --     recordsBytes recs c            the records of the first c buckets; no bytes are no record
 --     multiBytes ..                  the whole image; bytesOf r: what a record takes up in it
 --     partyIn .. keysIn, entryIn     the fields, read
---     recordPart l c                 the part of the image that is bucket c's record, empty where it has none
---     recordOf l c, sizeIn l c       the record in it; its size, 0 where it has none
+--     bucketPart l c                 the part of the image that is bucket c's record, empty where it has none
+--     bucketRecord l c               the record in it; bucketSize l c: its size, 0 where it has none
 --     multiOk l                      whether bytes are a multi image
 --     recordNumber l c, placeOf l c, recordGiven l c    handing out a bucket's record
 -- Assumes nothing.
@@ -35,11 +35,11 @@ use Rattle.multi.specs.declared.image.RecordPlace.{RecordPlace}
 -- ---- lengths
 
 -- behind the directory and the records of the buckets before
-unfoldable pub startOf : ℕ → (ℕ → ℕ) → ℕ → ℕ
-startOf b lens c = 72 + 8 * b + sumTo c lens
+unfoldable pub recordStart : ℕ → (ℕ → ℕ) → ℕ → ℕ
+recordStart b lens c = 72 + 8 * b + sumTo c lens
 
 abbrev pub multiLength : ℕ → (ℕ → ℕ) → ℕ
-multiLength b lens = startOf b lens b
+multiLength b lens = recordStart b lens b
 
 -- from the sizes of the records: none for size 0
 unfoldable pub lengthsBy : List ℕ → ℕ → ℕ
@@ -52,7 +52,7 @@ headerBytes party b d n keys = leBytes 4 party ++ leBytes 4 b ++ leBytes 8 d ++ 
 
 -- 0 for no record, else where it begins
 unfoldable pub entryFor : ℕ → (ℕ → ℕ) → ℕ → ℕ
-entryFor b lens c = cond (eqb (lens c) 0) 0 (startOf b lens c)
+entryFor b lens c = cond (eqb (lens c) 0) 0 (recordStart b lens c)
 
 unfoldable pub directoryBytes : ℕ → (ℕ → ℕ) → ℕ → List ℕ
 directoryBytes b lens zero = []
@@ -96,14 +96,14 @@ unfoldable pub entryIn : List ℕ → ℕ → ℕ
 entryIn l c = field 8 l (72 + 8 * c)
 
 -- as many bytes from the entry on as a record of the size found there takes up
-unfoldable pub recordPart : List ℕ → ℕ → List ℕ
-recordPart l c = cond (eqb (entryIn l c) 0) [] (single.recordPart l (entryIn l c))
+unfoldable pub bucketPart : List ℕ → ℕ → List ℕ
+bucketPart l c = cond (eqb (entryIn l c) 0) [] (single.recordPart l (entryIn l c))
 
-unfoldable pub recordOf : List ℕ → ℕ → Record
-recordOf l c = single.recordIn (recordPart l c)
+unfoldable pub bucketRecord : List ℕ → ℕ → Record
+bucketRecord l c = single.recordIn (bucketPart l c)
 
-unfoldable pub sizeIn : List ℕ → ℕ → ℕ
-sizeIn l c = single.sizeIn (recordPart l c)
+unfoldable pub bucketSize : List ℕ → ℕ → ℕ
+bucketSize l c = single.sizeIn (bucketPart l c)
 
 -- ---- what is a multi image
 
@@ -126,11 +126,13 @@ headerOk l = every (headerTests (partyIn l) (bucketsIn l) (domainIn l) (countIn 
 
 -- where bucket c's record has to begin: behind the records of the buckets before
 abbrev pub nextIn : List ℕ → ℕ → ℕ
-nextIn l c = startOf (bucketsIn l) (lengths (recordPart l)) c
+nextIn l c = recordStart (bucketsIn l) (lengths (bucketPart l)) c
 
 -- an entry is 0, or where the next record begins; and what begins there is a record
 unfoldable pub slotOk : List ℕ → ℕ → Bool
-slotOk l c = cond (eqb (entryIn l c) 0) true (every (eqb (entryIn l c) (nextIn l c) ∷ single.recordOk largestSingle (recordPart l c) ∷ []))
+slotOk l c =
+    cond (eqb (entryIn l c) 0) true
+    (every (eqb (entryIn l c) (nextIn l c) ∷ single.recordOk largestSingle (bucketPart l c) ∷ []))
 
 unfoldable pub slotsOk : List ℕ → ℕ → Bool
 slotsOk l zero = true
@@ -150,9 +152,9 @@ recordNumber l c = first ((not (multiOk l), Key) ∷ (leb (bucketsIn l) c, Index
 unfoldable pub placeOf : List ℕ → ℕ → RecordPlace
 placeOf l c =
     onSuccess (recordNumber l c)
-    (record { number = 0; start = entryIn l c; bytes = length (recordPart l c) })
+    (record { number = 0; start = entryIn l c; bytes = length (bucketPart l c) })
     (record { number = recordNumber l c; start = 0; bytes = 0 })
 
 -- that part of the image
 unfoldable pub recordGiven : List ℕ → ℕ → List ℕ
-recordGiven l c = onSuccess (recordNumber l c) (recordPart l c) []
+recordGiven l c = onSuccess (recordNumber l c) (bucketPart l c) []

@@ -1,5 +1,5 @@
--- The known sums that are shown of the rules themselves (document 01, "Known sums", marked P), as one table under one claim. The
--- rows of the layers below stand with their rules. The proof is proofs/KnownSums.antt. Assumes nothing.
+-- The known sums that are shown of the rules themselves (document 01, "Known sums", marked P), as one table under one claim.
+-- The rows of the layers below stand with their rules. The proof is proofs/KnownSums.antt. Assumes nothing.
 use mathlib.Core.Path.{_≡_}
 use mathlib.Core.Bool.{true, false}
 use mathlib.Core.List.{[], _∷_, map}

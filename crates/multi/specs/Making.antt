@@ -3,15 +3,15 @@
 --     valueAt vs k                 the value of the point that a holder names; 0 for none
 --     usedBy sizes c               how many random words the records before bucket c use
 --     totalsOf sizes               the words that all of them use, and the length of the image
---     Fitting sizes room0 room1    what writing an image with such sizes asks
+--     Fitting sizes spots room0 room1    what writing an image with such sizes and spots asks
 --     recordBy H S α β r0 r1 p     party p's record over S entries; none where there are none
 --     recordFrom .., laidRecord .. the record of bucket c, from word u on; from the word that it comes to
---     writeLaid ..                 what making writes and answers behind the early refusals, from what was laid out; writeGiven ..:
---                                  from what was given
+--     writeLaid ..                 what making writes and answers behind the early refusals, from what was laid out; writeGiven
+--                                  ..: from what was given
 -- Assumes nothing.
 use mathlib.Core.Bool.{Bool, true, false, cond}
 use mathlib.Core.List.{List, [], _∷_}
-use Prim.Native.Nat.{ℕ, zero, suc, _+_, _/_, _≤_}
+use Prim.Native.Nat.{ℕ, zero, suc, _+_, _-_, _/_, _≤_}
 use lib.Dec.{eqb, ltb}
 use lib.ListN.{length, getD}
 use Rattle.words.specs.Limits.{largestSingle, mostBuckets}
@@ -37,10 +37,12 @@ usedBy sizes c = sumTo c (λ e. wordsFor (getD sizes e 0))
 abbrev pub totalsOf : List ℕ → Totals
 totalsOf sizes = record { used = usedBy sizes (length sizes); bytes = multiLength (length sizes) (lengthsBy sizes) }
 
--- there are few sizes, each within the limit, and two buffers have room for their image
-pub record Fitting (sizes : List ℕ) (room0 room1 : ℕ) : Type 0 where
+-- there are few sizes, each within the limit; each spot is below its size, where there is a size; and two buffers have room for
+-- the image
+pub record Fitting (sizes spots : List ℕ) (room0 room1 : ℕ) : Type 0 where
   pub few : length sizes ≤ mostBuckets
   pub small : (c : ℕ) → getD sizes c 0 ≤ largestSingle
+  pub inside : (c : ℕ) → getD spots c 0 ≤ getD sizes c 0 - 1
   pub first : multiLength (length sizes) (lengthsBy sizes) ≤ room0
   pub second : multiLength (length sizes) (lengthsBy sizes) ≤ room1
 
@@ -51,7 +53,8 @@ recordBy H S α β r0 r1 p = cond (eqb S 0) noRecord (made H S α r0 r1 64 β p)
 
 module _ (H : Word → Word) (holders sizes spots vs ws : List ℕ) where
   unfoldable pub recordFrom : ℕ → Bool → ℕ → Record
-  recordFrom u p c = recordBy H (getD sizes c 0) (getD spots c 0) (valueAt vs (getD holders c 0)) (wordNo ws u) (wordNo ws (u + 1)) p
+  recordFrom u p c =
+      recordBy H (getD sizes c 0) (getD spots c 0) (valueAt vs (getD holders c 0)) (wordNo ws u) (wordNo ws (u + 1)) p
 
   unfoldable pub laidRecord : Bool → ℕ → Record
   laidRecord p c = recordFrom (usedBy sizes c) p c
@@ -75,10 +78,12 @@ refusing n k0 k1 = writing (record { number = n; length = 0; words = 0; eviction
 
 -- Words and Room, of numbers and lengths
 unfoldable pub roomRows : ℕ → Totals → ℕ → ℕ → List (Bool × ℕ)
-roomRows words t room0 room1 = (ltb (words / 2) (t .used), Words) ∷ (ltb room0 (t .bytes), Room) ∷ (ltb room1 (t .bytes), Room) ∷ []
+roomRows words t room0 room1 =
+    (ltb (words / 2) (t .used), Words) ∷ (ltb room0 (t .bytes), Room) ∷ (ltb room1 (t .bytes), Room) ∷ []
 
 -- from what was laid out, with as many evictions
-unfoldable pub writeLaid : (Word → Word) → ℕ → ℕ → List ℕ → List ℕ → List ℕ → List ℕ → List ℕ → List ℕ → ℕ → List ℕ → List ℕ → Writing
+unfoldable pub writeLaid : (Word → Word) → ℕ → ℕ → List ℕ → List ℕ → List ℕ → List ℕ → List ℕ → List ℕ → ℕ → List ℕ → List ℕ
+    → Writing
 writeLaid H d n keys holders sizes spots vs ws ev k0 k1 =
     let t = totalsOf sizes in
     let number = first (roomRows (length ws) t (length k0) (length k1)) in

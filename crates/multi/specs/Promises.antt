@@ -2,6 +2,7 @@
 --     SharesSum       the two shares of a cell add up to what was posted there
 --     RecordsMade     each made record has its bucket's size, fits its place, and uses words that are there
 --     MadeKeysRead    what the maker writes, every reader accepts and reads back
+--     OwnKeysRead     the same of the library's own tree hash and bucket functions: nothing is left to assume
 --     PairsAdd        demand 3 for lists of pairs, single and multi mixed, for every kind of image that gives the rules' shares
 --     RunsExist       demand 3 speaks of something: where made images are accepted, a run takes each of them
 -- Assumes nothing.
@@ -24,9 +25,9 @@ use Rattle.placement.specs.Walk.{Placement, walkOf}
 use Rattle.placement.specs.Shares.{atPoints, posted, Rising}
 use Rattle.placement.specs.Calls.{walkIn}
 use Rattle.multi.specs.Rules.{wordsFor, usedBefore, wordsUsed, madeRecord, madeShare}
-use Rattle.multi.specs.Image.{bucketsIn, domainIn, keysIn, recordOf, multiOk}
+use Rattle.multi.specs.Image.{bucketsIn, domainIn, countIn, keysIn, bucketRecord, multiOk}
 use Rattle.multi.specs.Calls.{Given, functions, imageLength, generateNumber, recordMade, imageMade, sideIn, matches, evaluateAtNumber, evaluateDomainNumber, addToNumber, shareIn}
-use Rattle.multi.specs.Tables as mixed
+use Rattle.multi.specs.Tables.{MixedPosting, mixedPosted, shareFor}
 
 -- ---- the sum rule
 
@@ -35,7 +36,8 @@ use Rattle.multi.specs.Tables as mixed
 pub record SharesSum : Type 0 where
   pub placed : (H : Word → Word) (w : ℕ) (h : ℕ → ℕ → ℕ) (D B : ℕ) (pts vs t ws : List ℕ) → 3 * D ≤ 2 ^ 64
       → Rising D pts → length vs ≡ length pts → Placement (atPoints h pts) B (length pts) t
-      → (x : ℕ) → x < D → (madeShare H w h D pts vs t ws false x + madeShare H w h D pts vs t ws true x) % 2 ^ w ≡ posted pts vs x % 2 ^ w
+      → (x : ℕ) → x < D
+      → (madeShare H w h D pts vs t ws false x + madeShare H w h D pts vs t ws true x) % 2 ^ w ≡ posted pts vs x % 2 ^ w
   pub walked : (H : Word → Word) (w : ℕ) (h : ℕ → ℕ → ℕ) (D B : ℕ) (pts vs ws : List ℕ) → 3 * D ≤ 2 ^ 64
       → ((k x : ℕ) → k < 3 → x < D → h k x < B)
       → Rising D pts → length vs ≡ length pts → walkOf (atPoints h pts) B (length pts) .hand ≡ 0
@@ -54,10 +56,9 @@ pub record RecordsMade : Type 0 where
   -- for every tree hash on words of 128 bits, and words given as u64: every word fits, and the last word is below 2 ^ w
   pub fits : (H : Word → Word) → On128 H → (w : ℕ) (h : ℕ → ℕ → ℕ) (D : ℕ) (pts vs t ws : List ℕ) → Halves ws
       → (p : Bool) (b : ℕ) → FitsRecord w (madeRecord H w h D pts vs t ws p b)
-  -- the words of bucket b are among all that are used, and no other bucket before or behind it uses them
-  pub apart : (h : ℕ → ℕ → ℕ) (D B b c : ℕ) → b < c → c < B
-      → (usedBefore h D b + wordsFor (sizeOf h D b) ≤ usedBefore h D c)
-      × (usedBefore h D c + wordsFor (sizeOf h D c) ≤ wordsUsed h D B)
+  -- the words of bucket b are among all that are used, and no bucket behind it uses them
+  pub within : (h : ℕ → ℕ → ℕ) (D B b : ℕ) → b < B → usedBefore h D b + wordsFor (sizeOf h D b) ≤ wordsUsed h D B
+  pub apart : (h : ℕ → ℕ → ℕ) (D b c : ℕ) → b < c → usedBefore h D b + wordsFor (sizeOf h D b) ≤ usedBefore h D c
 
 -- ---- made images
 
@@ -75,26 +76,29 @@ pub record Accepted (bucket : List ℕ → ℕ → ℕ → ℕ → ℕ) (g : Giv
   pub worded : Halves (g .words)
 
 -- the share of cell x by the records that the walk's table gives
-abbrev pub shareBy : (Word → Word) → (List ℕ → ℕ → ℕ → ℕ → ℕ) → Given → Bool → ℕ → ℕ
-shareBy H bucket g p x =
+abbrev pub shareMade : (Word → Word) → (List ℕ → ℕ → ℕ → ℕ → ℕ) → Given → Bool → ℕ → ℕ
+shareMade H bucket g p x =
     let h = functions bucket g in
     madeShare H 64 h (g .domain) (g .points) (g .values) (walkIn h (g .buckets) (g .points) .table) (g .words) p x
 
--- party p's image: its length is what making answers, every field is read back, no reading is refused where slices and index fit,
--- and its shares are those of the rules
+-- party p's image: its length is what making answers, every field is read back, no reading is refused where slices and index
+-- fit, and its shares are those of the rules
 pub record ReadBack (H : Word → Word) (bucket : List ℕ → ℕ → ℕ → ℕ → ℕ) (g : Given) (p : Bool) : Type 0 where
   pub long : length (imageMade H bucket g p) ≡ imageLength (functions bucket g) (g .domain) (g .buckets)
   pub ok : multiOk (imageMade H bucket g p) ≡ true
   pub side : sideIn (imageMade H bucket g p) ≡ p
   pub domain : domainIn (imageMade H bucket g p) ≡ g .domain
   pub buckets : bucketsIn (imageMade H bucket g p) ≡ g .buckets
+  pub count : countIn (imageMade H bucket g p) ≡ length (g .points)
   pub keys : keysIn (imageMade H bucket g p) ≡ g .keys
-  pub records : (b : ℕ) → b < g .buckets → recordOf (imageMade H bucket g p) b ≡ recordMade H bucket g p b
+  pub records : (b : ℕ) → b < g .buckets → bucketRecord (imageMade H bucket g p) b ≡ recordMade H bucket g p b
   pub matched : matches bucket (imageMade H bucket g p) ≡ true
   pub cell : (x room : ℕ) → x < g .domain → g .buckets ≤ room → evaluateAtNumber bucket (imageMade H bucket g p) x room ≡ 0
-  pub whole : (room out : ℕ) → 6 * g .domain + 2 * g .buckets ≤ room → g .domain ≤ out → evaluateDomainNumber bucket (imageMade H bucket g p) room out ≡ 0
-  pub adds : (room : ℕ) → 6 * g .domain + 2 * g .buckets ≤ room → addToNumber bucket (imageMade H bucket g p) (g .domain) room ≡ 0
-  pub shares : (x : ℕ) → x < g .domain → shareIn H bucket (imageMade H bucket g p) x ≡ shareBy H bucket g p x
+  pub whole : (room out : ℕ) → 6 * g .domain + 2 * g .buckets ≤ room → g .domain ≤ out
+      → evaluateDomainNumber bucket (imageMade H bucket g p) room out ≡ 0
+  pub adds : (room : ℕ) → 6 * g .domain + 2 * g .buckets ≤ room
+      → addToNumber bucket (imageMade H bucket g p) (g .domain) room ≡ 0
+  pub shares : (x : ℕ) → x < g .domain → shareIn H bucket (imageMade H bucket g p) x ≡ shareMade H bucket g p x
 
 abbrev pub MadeKeysRead : Type 0
 MadeKeysRead = (H : Word → Word) → On128 H → (bucket : List ℕ → ℕ → ℕ → ℕ → ℕ) → Below bucket
@@ -106,23 +110,26 @@ OwnKeysRead = (g : Given) → Accepted bucketOf g → (p : Bool) → ReadBack tr
 
 -- ---- demand 3
 
--- Single and multi pairs in any mixture: where the image of a posting gives the shares of the key that the rules make of it, the
--- tables of the two partners sum to what was there and all that was posted, each partner in an order of its own, with refused
--- calls of any kind anywhere between. A posting may be any kind of value; `rules q` says what it posts, and by which rules.
+-- Single and multi pairs in any mixture: where the image of a posting gives the shares of the key that the rules make of it,
+-- the tables of the two partners sum to what was there and all that was posted, each partner in an order of its own, with
+-- refused calls of any kind anywhere between. A posting may be any kind of value; `rules q` says what it posts, and by which
+-- rules.
 abbrev pub PairsAdd : Type 1
 PairsAdd = (H : Word → Word) (w D : ℕ) → 3 * D ≤ 2 ^ 64
-    → (Image Posting : Type 0) (rules : Posting → mixed.Posting D)
+    → (Image Posting : Type 0) (rules : Posting → MixedPosting D)
     → (answer : Image → List ℕ → ℕ → ℕ) (shareOf : Image → ℕ → ℕ) (image : Bool → Posting → Image)
-    → ((p : Bool) (q : Posting) (x : ℕ) → x < D → shareOf (image p q) x ≡ mixed.shareFor H w D p (rules q) x)
-    → Demand3 answer w shareOf image (λ q. mixed.posted D (rules q)) D
+    → ((p : Bool) (q : Posting) (x : ℕ) → x < D → shareOf (image p q) x ≡ shareFor H w D p (rules q) x)
+    → Demand3 answer w shareOf image (λ q. mixedPosted D (rules q)) D
 
 -- a call for each posting, with scratch of `room` elements
 abbrev pub calls : {Image Posting : Type 0} → (Posting → Image) → ℕ → List Posting → List (Call Image)
 calls image room ps = map (λ q. record { image = image q; room = room }) ps
 
--- Where every image of a list is accepted by a table of n cells with so much scratch, the run over them takes each one, in their
--- order: the runs that demand 3 speaks of are there, for every list of postings and every order of it.
+-- Where every image of a list is accepted by a table of n cells with so much scratch, the run over them takes each one, in
+-- their order: the runs that demand 3 speaks of are there, for every list of postings and every order of it.
 abbrev pub RunsExist : Type 1
-RunsExist = (Image Posting : Type 0) (answer : Image → List ℕ → ℕ → ℕ) (w : ℕ) (shareOf : Image → ℕ → ℕ) (image : Posting → Image) (n room : ℕ)
+RunsExist =
+    (Image Posting : Type 0) (answer : Image → List ℕ → ℕ → ℕ) (w : ℕ) (shareOf : Image → ℕ → ℕ) (image : Posting → Image)
+    (n room : ℕ)
     → ((q : Posting) (t : List ℕ) → length t ≡ n → answer (image q) t room ≡ 0)
     → (ps : List Posting) (t : List ℕ) → length t ≡ n → taken answer w shareOf (calls image room ps) t ≡ map image ps

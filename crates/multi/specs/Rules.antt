@@ -1,10 +1,10 @@
--- The rules of the multi key (document 01, "Rules of buckets and placement"), over any tree hash H, any width w of values and any
--- bucket functions h (`h k x` is the bucket of cell x by function k) for a domain of D cells. A key holds a record for each
+-- The rules of the multi key (document 01, "Rules of buckets and placement"), over any tree hash H, any width w of values and
+-- any bucket functions h (`h k x` is the bucket of cell x by function k) for a domain of D cells. A key holds a record for each
 -- bucket, `rec b` for bucket b; a record of size 0 stands for no record, single's `noRecord`.
 --     shareOver w b c d u v z              u, v and z are the shares of buckets b, c and d: the sum over the distinct ones
 --     cellShare H w p rec b c d x y z      a cell's share, from its three buckets and its three positions there
 --     multiShare H w p rec h D x           the share of cell x, with its own buckets and positions
---     wordNo ws i, pairs ws                random word i of a list of u64; how many words the list has
+--     pairs ws                             how many random words a list of u64 has; `wordNo` of words is word i
 --     wordsFor S                           how many words a record of size S uses
 --     usedBefore h D b                     how many the buckets before b use; wordsUsed h D B: all B buckets
 --     madeRecord H w h D pts vs t ws p b   party p's record of bucket b: values vs at points pts, placed by the table t

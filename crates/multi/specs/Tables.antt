@@ -1,8 +1,8 @@
 -- Lists of pairs, single and multi mixed, over one table of D cells (demand 3). Whatever an image is and whoever made it, a
 -- posting says which rules gave its two keys.
---     MultiPosting D      what the maker of a multi key is given, and the placement that it found
---     Posting D           a single posting, or a multi posting
---     posted D q x        the value that a posting puts at cell x
+--     MultiPosting D          what the maker of a multi key is given, and the placement that it found
+--     MixedPosting D          a single posting, or a multi posting
+--     mixedPosted D q x       the value that a posting puts at cell x
 --     shareFor H w D p q x    party p's share of cell x by the rules, from the key that they make of the posting q
 -- Assumes nothing.
 use mathlib.Core.Path.{_≡_}
@@ -29,14 +29,14 @@ pub record MultiPosting (D : ℕ) : Type 0 where
   pub paired : length values ≡ length points
   pub placed : Placement (cells.atPoints h points) buckets (length points) table
 
-pub data Posting (D : ℕ) : Type 0 where
-  onePoint : ones.Posting D → Posting D
-  manyPoints : MultiPosting D → Posting D
+pub data MixedPosting (D : ℕ) : Type 0 where
+  singlePosting : ones.Posting D → MixedPosting D
+  multiPosting : MultiPosting D → MixedPosting D
 
-abbrev pub posted : (D : ℕ) → Posting D → ℕ → ℕ
-posted D (onePoint q) x = ones.posted D q x
-posted D (manyPoints q) x = cells.posted (q .points) (q .values) x
+abbrev pub mixedPosted : (D : ℕ) → MixedPosting D → ℕ → ℕ
+mixedPosted D (singlePosting q) x = ones.posted D q x
+mixedPosted D (multiPosting q) x = cells.posted (q .points) (q .values) x
 
-abbrev pub shareFor : (Word → Word) → ℕ → (D : ℕ) → Bool → Posting D → ℕ → ℕ
-shareFor H w D p (onePoint q) x = one.share H w p (one.made H D (q .α) (q .r0) (q .r1) w (q .β) p) x
-shareFor H w D p (manyPoints q) x = madeShare H w (q .h) D (q .points) (q .values) (q .table) (q .words) p x
+abbrev pub shareFor : (Word → Word) → ℕ → (D : ℕ) → Bool → MixedPosting D → ℕ → ℕ
+shareFor H w D p (singlePosting q) x = one.share H w p (one.made H D (q .α) (q .r0) (q .r1) w (q .β) p) x
+shareFor H w D p (multiPosting q) x = madeShare H w (q .h) D (q .points) (q .values) (q .table) (q .words) p x

@@ -1,7 +1,7 @@
 // The public calls of multi keys: making a pair, one cell, all cells, and adding to a table.
 // Rules: document 01, "Refusal numbers". Source: dpf/src/mpdpf.rs for the first three; the adding call is ours.
-// Each promise is one equation: the answer and every lent slice at exit, together, are the function of specs/Calls.antt of what the
-// call was given. A refusal leaves every slice as it was, but for scratch on 6, 7, 8 and 12, which is zeroed.
+// Each promise is one equation: the answer and every lent slice at exit, together, are the function of specs/Calls.antt of what
+// the call was given. A refusal leaves every slice as it was, but for scratch on 6, 7, 8 and 12, which is zeroed.
 ghost use mathlib.Core.Path.{_≡_};
 ghost use Rattle.cipher.specs.TreeHash.{treeHash};
 ghost use Rattle.bucket_hash.specs.BucketHash.{bucketOf};
@@ -41,8 +41,10 @@ pub fn generate_keys(
     key0: &mut [u8],
     key1: &mut [u8],
 ) -> Generated
-    ensures { λ r. ⌜ spec.Generates treeHash bucketOf (spec.given domain buckets keys (now (points .entry)) (now (values .entry)) (now (words .entry)))
-        (now (scratch .entry)) (now (key0 .entry)) (now (key1 .entry)) (spec.generating r (now (scratch .exit)) (now (key0 .exit)) (now (key1 .exit))) ⌝ }
+    ensures { λ r. ⌜ spec.Generates treeHash bucketOf
+        (spec.given domain buckets keys (now (points .entry)) (now (values .entry)) (now (words .entry)))
+        (now (scratch .entry)) (now (key0 .entry)) (now (key1 .entry))
+        (spec.generating r (now (scratch .exit)) (now (key0 .exit)) (now (key1 .exit))) ⌝ }
 {
     let number = make::generate_number(domain, buckets, points, values, scratch.len());
     if number != 0 {
@@ -68,7 +70,8 @@ pub fn generate_keys(
 
 // The share of a cell that the image's key gives. Scratch: an element a bucket, zeros at the end. Refusals: 9, 10, 5, 12.
 pub fn evaluate_at(key: &[u8], index: u64, scratch: &mut [u64]) -> Share
-    ensures { λ r. ⌜ spec.EvaluatesAt treeHash bucketOf (now (key .entry)) index (now (scratch .entry)) (spec.reading r (now (scratch .exit))) ⌝ }
+    ensures { λ r. ⌜ spec.EvaluatesAt treeHash bucketOf (now (key .entry)) index (now (scratch .entry))
+        (spec.reading r (now (scratch .exit))) ⌝ }
 {
     let number = read::evaluate_at_number(key, index, scratch.len());
     if number != 0 {
@@ -85,17 +88,13 @@ pub fn evaluate_at(key: &[u8], index: u64, scratch: &mut [u64]) -> Share
 // The shares of all cells, in front of `out`. Scratch: 6D + 2B elements, zeros at the end. Refusals: 9, 5, 8, 12.
 pub fn evaluate_domain(key: &[u8], scratch: &mut [u64], out: &mut [u64]) -> u64
     ensures { λ r. ⌜ spec.EvaluatesDomain treeHash bucketOf (now (key .entry)) (now (scratch .entry)) (now (out .entry))
-        (spec.evaluating r (now (scratch .exit)) (now (out .exit))) ⌝ }
+        (spec.swept r (now (scratch .exit)) (now (out .exit))) ⌝ }
 {
     let number = read::evaluate_domain_number(key, scratch.len(), out.len());
     if number != 0 {
         return number;
     }
-    let need = read::domain_room(key) as usize;
-    let hashes = Hashes::new(image::hash_keys(key));
-    let found = read::put_cells(hashes, key, scratch, out);
-    slices::zero_first(scratch, need);
-    found
+    read::sweep(false, key, scratch, out)
 }
 
 // ---- adding to a table
@@ -104,15 +103,11 @@ pub fn evaluate_domain(key: &[u8], scratch: &mut [u64], out: &mut [u64]) -> u64
 // Refusals: 9, 11, 5, 12.
 pub fn add_to(key: &[u8], scratch: &mut [u64], table: &mut [u64]) -> u64
     ensures { λ r. ⌜ spec.AddsTo treeHash bucketOf (now (key .entry)) (now (scratch .entry)) (now (table .entry))
-        (spec.adding r (now (scratch .exit)) (now (table .exit))) ⌝ }
+        (spec.swept r (now (scratch .exit)) (now (table .exit))) ⌝ }
 {
     let number = read::add_to_number(key, table.len(), scratch.len());
     if number != 0 {
         return number;
     }
-    let need = read::domain_room(key) as usize;
-    let hashes = Hashes::new(image::hash_keys(key));
-    let found = read::add_cells(hashes, key, scratch, table);
-    slices::zero_first(scratch, need);
-    found
+    read::sweep(true, key, scratch, table)
 }

@@ -138,7 +138,7 @@ fn part_at(key: &[u8], at: usize) -> &[u8]
 // The part of the image that is bucket c's record; empty where it has none.
 pub(crate) fn part(key: &[u8], c: usize) -> &[u8]
     requires { ⌜ c ≤ mostBuckets ⌝ }
-    ensures { λ r. ⌜ now r ≡ spec.recordPart (now (key .entry)) c ⌝ }
+    ensures { λ r. ⌜ now r ≡ spec.bucketPart (now (key .entry)) c ⌝ }
 {
     let e = entry(key, c);
     if e == 0 {
@@ -150,7 +150,7 @@ pub(crate) fn part(key: &[u8], c: usize) -> &[u8]
 // The size of bucket c's record; 0 where it has none.
 pub(crate) fn size(key: &[u8], c: usize) -> u64
     requires { ⌜ c ≤ mostBuckets ⌝ }
-    ensures { λ r. ⌜ r ≡ spec.sizeIn (now (key .entry)) c ⌝ }
+    ensures { λ r. ⌜ r ≡ spec.bucketSize (now (key .entry)) c ⌝ }
 {
     bytes::get_u64(part(key, c), 0)
 }
@@ -180,7 +180,8 @@ fn next_start(key: &[u8], c: usize, at: usize) -> usize
 // Whether every slot is ok, and the last record ends the image.
 fn slots_ok(key: &[u8], n: usize) -> bool
     requires { ⌜ (n ≡ spec.bucketsIn (now key)) × (n ≤ mostBuckets) ⌝ }
-    ensures { λ r. ⌜ r ≡ every (spec.slotsOk (now (key .entry)) n ∷ eqb (spec.nextIn (now (key .entry)) n) (length (now (key .entry))) ∷ []) ⌝ }
+    ensures { λ r. ⌜ r ≡ every (spec.slotsOk (now (key .entry)) n
+        ∷ eqb (spec.nextIn (now (key .entry)) n) (length (now (key .entry))) ∷ []) ⌝ }
 {
     let mut at: usize = 72 + 8 * n;
     let mut c: usize = 0;

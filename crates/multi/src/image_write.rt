@@ -63,7 +63,8 @@ fn entry_for(len: u64, at: u64) -> u64
 pub(crate) fn put_directory(n: usize, sizes: &[u64], buf: &mut [u8])
     requires { ⌜ n ≤ length (now sizes) ⌝ }
     requires { ⌜ spec.multiLength n (spec.lengthsBy (now sizes)) ≤ length (now buf) ⌝ }
-    ensures { λ _. ⌜ now (buf .exit) ≡ put (now (buf .entry)) 72 (spec.directoryBytes n (spec.lengthsBy (now (sizes .entry))) n) ⌝ }
+    ensures { λ _. ⌜ now (buf .exit) ≡ put (now (buf .entry)) 72
+        (spec.directoryBytes n (spec.lengthsBy (now (sizes .entry))) n) ⌝ }
 {
     let mut at: u64 = 72 + 8 * n as u64;
     let mut c: usize = 0;

@@ -3,7 +3,7 @@
 ghost use mathlib.Core.Path.{_≡_};
 ghost use mathlib.Core.Bool.{true, false};
 ghost use mathlib.Core.List.{[], _++_};
-ghost use Prim.Native.Nat.{ℕ, _+_, _*_, _^_, _≤_, _<_};
+ghost use Prim.Native.Nat.{ℕ, _+_, _-_, _*_, _^_, _≤_, _<_};
 ghost use lib.ListN.{length, take, drop, getD};
 ghost use Rattle.words.specs.Limits.{largestSingle, mostBuckets};
 ghost use Rattle.words.specs.Bytes.{put};
@@ -90,7 +90,8 @@ fn put_pair(
     key0: &mut [u8],
     key1: &mut [u8],
 )
-    requires { ⌜ (size ≤ largestSingle) × (at + single-record.lengthFor size ≤ length (now key0)) × (at + single-record.lengthFor size ≤ length (now key1)) ⌝ }
+    requires { ⌜ (size ≤ largestSingle) × (alpha ≤ size - 1)
+        × (at + single-record.lengthFor size ≤ length (now key0)) × (at + single-record.lengthFor size ≤ length (now key1)) ⌝ }
     ensures first { λ _. ⌜ now (key0 .exit) ≡ put (now (key0 .entry)) at (image.bytesOf (spec.recordBy (hashBy h) size alpha beta r0 r1 false)) ⌝ }
     ensures second { λ _. ⌜ now (key1 .exit) ≡ put (now (key1 .entry)) at (image.bytesOf (spec.recordBy (hashBy h) size alpha beta r0 r1 true)) ⌝ }
 {
@@ -118,12 +119,15 @@ fn put_bucket(
     key0: &mut [u8],
     key1: &mut [u8],
 )
-    requires { ⌜ (used < 2 ^ 31) × (getD (now sizes) c 0 ≤ largestSingle)
-        × (at + single-record.lengthFor (getD (now sizes) c 0) ≤ length (now key0)) × (at + single-record.lengthFor (getD (now sizes) c 0) ≤ length (now key1)) ⌝ }
+    requires { ⌜ (used < 2 ^ 31) × (getD (now sizes) c 0 ≤ largestSingle) × (getD (now spots) c 0 ≤ getD (now sizes) c 0 - 1)
+        × (at + single-record.lengthFor (getD (now sizes) c 0) ≤ length (now key0))
+        × (at + single-record.lengthFor (getD (now sizes) c 0) ≤ length (now key1)) ⌝ }
     ensures first { λ _. ⌜ now (key0 .exit) ≡ put (now (key0 .entry)) at (image.bytesOf (spec.recordFrom (hashBy h)
-        (now (holders .entry)) (now (sizes .entry)) (now (spots .entry)) (now (values .entry)) (now (words .entry)) used false c)) ⌝ }
+        (now (holders .entry)) (now (sizes .entry)) (now (spots .entry)) (now (values .entry))
+        (now (words .entry)) used false c)) ⌝ }
     ensures second { λ _. ⌜ now (key1 .exit) ≡ put (now (key1 .entry)) at (image.bytesOf (spec.recordFrom (hashBy h)
-        (now (holders .entry)) (now (sizes .entry)) (now (spots .entry)) (now (values .entry)) (now (words .entry)) used true c)) ⌝ }
+        (now (holders .entry)) (now (sizes .entry)) (now (spots .entry)) (now (values .entry))
+        (now (words .entry)) used true c)) ⌝ }
 {
     let size = element(sizes, c);
     let alpha = element(spots, c);
@@ -144,7 +148,7 @@ fn put_records(
     key0: &mut [u8],
     key1: &mut [u8],
 )
-    requires { ⌜ spec.Fitting (now sizes) (length (now key0)) (length (now key1)) ⌝ }
+    requires { ⌜ spec.Fitting (now sizes) (now spots) (length (now key0)) (length (now key1)) ⌝ }
     ensures first { λ _. ⌜ now (key0 .exit) ≡ put (now (key0 .entry)) (72 + 8 * length (now (sizes .entry))) (image.recordsBytes (spec.laidBytes (hashBy h)
         (now (holders .entry)) (now (sizes .entry)) (now (spots .entry)) (now (values .entry)) (now (words .entry)) false) (length (now (sizes .entry)))) ⌝ }
     ensures second { λ _. ⌜ now (key1 .exit) ≡ put (now (key1 .entry)) (72 + 8 * length (now (sizes .entry))) (image.recordsBytes (spec.laidBytes (hashBy h)
@@ -179,46 +183,16 @@ fn put_records(
 
 // A party's header and directory.
 fn put_front(party: u32, domain: u64, count: u32, keys: [u8; 48], sizes: &[u64], buf: &mut [u8])
-    requires { ⌜ (length (now sizes) ≤ mostBuckets) × (image.multiLength (length (now sizes)) (image.lengthsBy (now sizes)) ≤ length (now buf)) ⌝ }
-    ensures { λ _. ⌜ now (buf .exit) ≡ put (now (buf .entry)) 0 (image.headerBytes party (length (now (sizes .entry))) domain count keys
-        ++ image.directoryBytes (length (now (sizes .entry))) (image.lengthsBy (now (sizes .entry))) (length (now (sizes .entry)))) ⌝ }
+    requires { ⌜ (length (now sizes) ≤ mostBuckets)
+        × (image.multiLength (length (now sizes)) (image.lengthsBy (now sizes)) ≤ length (now buf)) ⌝ }
+    ensures { λ _. ⌜ now (buf .exit) ≡ put (now (buf .entry)) 0
+        (image.headerBytes party (length (now (sizes .entry))) domain count keys
+        ++ image.directoryBytes (length (now (sizes .entry))) (image.lengthsBy (now (sizes .entry)))
+        (length (now (sizes .entry)))) ⌝ }
 {
     let b = sizes.len();
     put_header(party, b as u32, domain, count, keys, buf);
     put_directory(b, sizes, buf);
-}
-
-// Both parties' images, for which there is room.
-fn put_images(
-    domain: u64,
-    count: u32,
-    keys: [u8; 48],
-    holders: &[u64],
-    sizes: &[u64],
-    spots: &[u64],
-    values: &[u64],
-    words: &[u64],
-    key0: &mut [u8],
-    key1: &mut [u8],
-)
-    requires { ⌜ spec.Fitting (now sizes) (length (now key0)) (length (now key1)) ⌝ }
-    ensures first { λ _. ⌜ now (key0 .exit) ≡ put (now (key0 .entry)) 0 (image.multiBytes 0 (length (now (sizes .entry))) domain count keys (spec.laidBytes treeHash
-        (now (holders .entry)) (now (sizes .entry)) (now (spots .entry)) (now (values .entry)) (now (words .entry)) false)) ⌝ }
-    ensures second { λ _. ⌜ now (key1 .exit) ≡ put (now (key1 .entry)) 0 (image.multiBytes 1 (length (now (sizes .entry))) domain count keys (spec.laidBytes treeHash
-        (now (holders .entry)) (now (sizes .entry)) (now (spots .entry)) (now (values .entry)) (now (words .entry)) true)) ⌝ }
-{
-    put_front(0, domain, count, keys, sizes, key0);
-    put_front(1, domain, count, keys, sizes, key1);
-    put_records(
-        TreeHash::new(),
-        holders,
-        sizes,
-        spots,
-        values,
-        words,
-        key0,
-        key1,
-    );
 }
 
 // ---- refusals
@@ -231,7 +205,8 @@ pub(crate) fn generate_number(
     values: &[u64],
     len: usize,
 ) -> u64
-    ensures { λ r. ⌜ r ≡ first (call.generateEarly (call.given domain buckets [] (now (points .entry)) (now (values .entry)) []) len) ⌝ }
+    ensures { λ r. ⌜ r
+        ≡ first (call.generateEarly (call.given domain buckets [] (now (points .entry)) (now (values .entry)) []) len) ⌝ }
 {
     if domain < 1 {
         return refusals::DOMAIN;
@@ -308,7 +283,8 @@ fn write_laid(
     key0: &mut [u8],
     key1: &mut [u8],
 ) -> Generated
-    requires { ⌜ (length (now sizes) ≤ mostBuckets) × ((c : ℕ) → getD (now sizes) c 0 ≤ largestSingle) ⌝ }
+    requires { ⌜ (length (now sizes) ≤ mostBuckets) × ((c : ℕ) → getD (now sizes) c 0 ≤ largestSingle)
+        × ((c : ℕ) → getD (now spots) c 0 ≤ getD (now sizes) c 0 - 1) ⌝ }
     ensures { λ r. ⌜ spec.writing r (now (key0 .exit)) (now (key1 .exit)) ≡ spec.writeLaid treeHash domain count keys (now (holders .entry))
         (now (sizes .entry)) (now (spots .entry)) (now (values .entry)) (now (words .entry)) evictions (now (key0 .entry)) (now (key1 .entry)) ⌝ }
 {
@@ -317,10 +293,10 @@ fn write_laid(
     if number != 0 {
         return refused(number);
     }
-    put_images(
-        domain,
-        count,
-        keys,
+    put_front(0, domain, count, keys, sizes, key0);
+    put_front(1, domain, count, keys, sizes, key1);
+    put_records(
+        TreeHash::new(),
         holders,
         sizes,
         spots,
@@ -351,7 +327,8 @@ fn write_work(
     key1: &mut [u8],
 ) -> Generated
     requires { ⌜ (b ≤ mostBuckets) × (n ≤ mostBuckets) × (b + n + b + b ≤ length (now work)) ⌝ }
-    requires { ⌜ ((c : ℕ) → getD (take b (drop (b + n) (now work))) c 0 ≤ largestSingle) ⌝ }
+    requires { ⌜ ((c : ℕ) → getD (take b (drop (b + n) (now work))) c 0 ≤ largestSingle)
+        × ((c : ℕ) → getD (take b (drop (b + n + b) (now work))) c 0 ≤ getD (take b (drop (b + n) (now work))) c 0 - 1) ⌝ }
     ensures { λ r. ⌜ spec.writing r (now (key0 .exit)) (now (key1 .exit)) ≡ spec.writeLaid treeHash domain n keys (take b (now (work .entry)))
         (take b (drop (b + n) (now (work .entry)))) (take b (drop (b + n + b) (now (work .entry)))) (now (values .entry)) (now (words .entry))
         evictions (now (key0 .entry)) (now (key1 .entry)) ⌝ }
@@ -374,8 +351,8 @@ fn write_work(
     )
 }
 
-// All that is left behind the early refusals: the points are placed, and both images are written; or Place, Words or Room. What the
-// scratch holds then is for the caller to zero.
+// All that is left behind the early refusals: the points are placed, and both images are written; or Place, Words or Room. What
+// the scratch holds then is for the caller to zero.
 pub(crate) fn make_in(
     domain: u64,
     buckets: u64,
@@ -387,9 +364,12 @@ pub(crate) fn make_in(
     key0: &mut [u8],
     key1: &mut [u8],
 ) -> Generated
-    requires { ⌜ first (call.generateEarly (call.given domain buckets keys (now points) (now values) (now words)) (length (now scratch))) ≡ 0 ⌝ }
-    ensures { λ r. ⌜ spec.writing r (now (key0 .exit)) (now (key1 .exit)) ≡ spec.writeGiven treeHash bucketOf
-        (call.given domain buckets keys (now (points .entry)) (now (values .entry)) (now (words .entry))) (now (key0 .entry)) (now (key1 .entry)) ⌝ }
+    requires { ⌜ first (call.generateEarly (call.given domain buckets keys (now points) (now values) (now words))
+        (length (now scratch))) ≡ 0 ⌝ }
+    ensures { λ r. ⌜ spec.writing r (now (key0 .exit)) (now (key1 .exit))
+        ≡ spec.writeGiven treeHash bucketOf
+        (call.given domain buckets keys (now (points .entry)) (now (values .entry)) (now (words .entry)))
+        (now (key0 .entry)) (now (key1 .entry)) ⌝ }
 {
     let placed = placement::lay_out(Hashes::new(keys), domain, buckets, points, scratch);
     if placed.number != 0 {

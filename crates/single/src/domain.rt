@@ -2,16 +2,15 @@
 // node i are nodes 2i and 2i + 1 of the next layer. A layer is grown from its last node to its first, so that a node is read
 // before its place is written. Meanings: specs/Nodes.antt.
 ghost use mathlib.Core.Path.{_≡_};
-ghost use mathlib.Core.Bool.{cond};
 ghost use mathlib.Core.List.{[], _∷_};
 ghost use Prim.Native.Nat.{_+_, _-_, _*_, _/_, _≤_, _<_};
-ghost use lib.Dec.{ltb};
 ghost use lib.ListN.{length};
 ghost use Rattle.words.specs.Bytes.{put};
+ghost use Rattle.words.specs.Cells.{wordNo};
 ghost use Rattle.cipher.specs.TreeHash.{hashBy};
 ghost use Rattle.single.specs.Rules as rule;
 ghost use Rattle.single.specs.Keys.{wordsOf, recordOf, worth, Sound};
-ghost use Rattle.single.specs.Nodes.{nodesFrom, grown, layer, lowWord, spread};
+ghost use Rattle.single.specs.Nodes.{nodesFrom, children, layer, lowWord, spread};
 use crate::SingleKey;
 use crate::tree::End;
 use crate::tree::end_in;
@@ -19,7 +18,19 @@ use crate::tree::moved;
 use crate::tree::share_of;
 use cipher::TreeHash;
 use words::Word;
-use words::cells;
+
+// ---- nodes
+
+// Node i.
+fn get_node(nodes: &[u64], i: usize) -> Word
+    requires { ⌜ 2 * i + 1 < length (now nodes) ⌝ }
+    ensures { λ r. ⌜ r ≡ wordNo (now (nodes .entry)) i ⌝ }
+{
+    Word {
+        lo: nodes[2 * i],
+        hi: nodes[2 * i + 1],
+    }
+}
 
 // Stores node i.
 fn set_node(nodes: &mut [u64], i: usize, w: Word)
@@ -30,23 +41,21 @@ fn set_node(nodes: &mut [u64], i: usize, w: Word)
     nodes[2 * i + 1] = w.hi;
 }
 
-// ---- the layers but the last
-
-// The children of node i, from one hash; the right one only where the next layer has it.
-fn grow(h: TreeHash, cw: Word, i: usize, next: usize, nodes: &mut [u64])
+// Stores the children of node i in a layer of `next` nodes, the right one only where the layer has it.
+fn set_children(nodes: &mut [u64], i: usize, next: usize, left: Word, right: Word)
     requires { ⌜ (2 * i < next) × (2 * next ≤ length (now nodes)) ⌝ }
-    ensures { λ _. ⌜ now (nodes .exit) ≡ put (now (nodes .entry)) (2 * (2 * i))
-        (nodesFrom (grown (λ a s. rule.step (hashBy h) a cw s) (now (nodes .entry))) (2 * i) (cond (ltb (2 * i + 1) next) 2 1)) ⌝ }
+    ensures { λ _. ⌜ now (nodes .exit) ≡ put (now (nodes .entry)) (2 * (2 * i)) (children next i left right) ⌝ }
 {
-    let s = cells::word_no(nodes, i);
-    let x = h.hash(s);
-    set_node(nodes, 2 * i, moved(x, false, cw, s));
+    set_node(nodes, 2 * i, left);
     if 2 * i + 1 < next {
-        set_node(nodes, 2 * i + 1, moved(x, true, cw, s));
+        set_node(nodes, 2 * i + 1, right);
     }
 }
 
-// The next layer, of `next` nodes, in place of this one. This is the function to replace where many nodes are hashed at once.
+// ---- the layers but the last
+
+// The next layer, of `next` nodes, in place of this one; the children of a node come from one hash. This is the function to
+// replace where many nodes are hashed at once.
 fn expand_layer(h: TreeHash, cw: Word, next: usize, nodes: &mut [u64])
     requires { ⌜ 2 * next ≤ length (now nodes) ⌝ }
     ensures { λ _. ⌜ now (nodes .exit) ≡ layer (λ a s. rule.step (hashBy h) a cw s) next (now (nodes .entry)) ⌝ }
@@ -54,7 +63,15 @@ fn expand_layer(h: TreeHash, cw: Word, next: usize, nodes: &mut [u64])
     let mut i: usize = next / 2 + next % 2;
     while 0 < i {
         i -= 1;
-        grow(h, cw, i, next, nodes);
+        let s = get_node(nodes, i);
+        let x = h.hash(s);
+        set_children(
+            nodes,
+            i,
+            next,
+            moved(x, false, cw, s),
+            moved(x, true, cw, s),
+        );
     }
 }
 
@@ -82,34 +99,7 @@ fn expand_inner(h: TreeHash, k: SingleKey, nodes: &mut [u64])
 
 // ---- the last layer
 
-// The shares of the two cells below node i, a hash each; the right one only where there is such a cell.
-fn grow_last(h: TreeHash, party: bool, e: End, i: usize, cells: usize, nodes: &mut [u64])
-    requires { ⌜ (2 * i < cells) × (2 * cells ≤ length (now nodes)) ⌝ }
-    ensures { λ _. ⌜ now (nodes .exit) ≡ put (now (nodes .entry)) (2 * (2 * i))
-        (nodesFrom (grown (λ a s. lowWord (worth (hashBy h) 64 party e a s)) (now (nodes .entry))) (2 * i) (cond (ltb (2 * i + 1) cells) 2 1)) ⌝ }
-{
-    let s = cells::word_no(nodes, i);
-    set_node(
-        nodes,
-        2 * i,
-        Word {
-            lo: share_of(h, party, e, false, s),
-            hi: 0,
-        },
-    );
-    if 2 * i + 1 < cells {
-        set_node(
-            nodes,
-            2 * i + 1,
-            Word {
-                lo: share_of(h, party, e, true, s),
-                hi: 0,
-            },
-        );
-    }
-}
-
-// The shares of all cells in place of the layer before the last.
+// The shares of all cells in place of the layer before the last, a hash each.
 fn expand_last(h: TreeHash, party: bool, e: End, cells: usize, nodes: &mut [u64])
     requires { ⌜ 2 * cells ≤ length (now nodes) ⌝ }
     ensures { λ _. ⌜ now (nodes .exit) ≡ layer (λ a s. lowWord (worth (hashBy h) 64 party e a s)) cells (now (nodes .entry)) ⌝ }
@@ -117,7 +107,16 @@ fn expand_last(h: TreeHash, party: bool, e: End, cells: usize, nodes: &mut [u64]
     let mut i: usize = cells / 2 + cells % 2;
     while 0 < i {
         i -= 1;
-        grow_last(h, party, e, i, cells, nodes);
+        let s = get_node(nodes, i);
+        let left = share_of(h, party, e, false, s);
+        let right = share_of(h, party, e, true, s);
+        set_children(
+            nodes,
+            i,
+            cells,
+            Word { lo: left, hi: 0 },
+            Word { lo: right, hi: 0 },
+        );
     }
 }
 

@@ -34,12 +34,6 @@ pub(crate) fn pick_bit(b: bool, x: bool, y: bool) -> bool
     if b { x } else { y }
 }
 
-pub(crate) fn pick_word(b: bool, x: Word, y: Word) -> Word
-    ensures { λ r. ⌜ r ≡ cond b x y ⌝ }
-{
-    if b { x } else { y }
-}
-
 // ---- levels
 
 // What the seed s becomes, from its hash: the seed where a is 1, the correction word where the seed is odd.
@@ -47,13 +41,6 @@ pub(crate) fn moved(hash: Word, a: bool, cw: Word, s: Word) -> Word
     ensures { λ r. ⌜ r ≡ hash ⊕ s when a ⊕ cw when odd s ⌝ }
 {
     hash.xor(s.when(a)).xor(cw.when(s.is_odd()))
-}
-
-// One level down.
-pub(crate) fn step(h: TreeHash, a: bool, cw: Word, s: Word) -> Word
-    ensures { λ r. ⌜ r ≡ rule.step (hashBy h) a cw s ⌝ }
-{
-    moved(h.hash(s), a, cw, s)
 }
 
 // The last level.
@@ -80,7 +67,7 @@ fn descend(h: TreeHash, k: SingleKey, y: u64) -> Word
             lo: k.lows[i],
             hi: k.highs[i],
         };
-        s = step(h, words::bit((n - 1 - i) as u64, y), cw, s);
+        s = moved(h.hash(s), words::bit((n - 1 - i) as u64, y), cw, s);
         i += 1;
     }
     s

@@ -1,8 +1,8 @@
--- `multi::calls::generate_keys` meets its contract: what is refused early leaves everything; else the keys are made in the part of
--- the scratch that is needed, and that part is zeroed. Assumes nothing.
+-- `multi::calls::generate_keys` meets its contract: what is refused early leaves everything; else the keys are made in the part
+-- of the scratch that is needed, and that part is zeroed. Assumes nothing.
 use mathlib.Core.Path.{_≡_, sym, ap, _∙_}
 use mathlib.Core.List.{List}
-use Prim.Native.Nat.{ℕ, _+_, _*_, _≤_}
+use Prim.Native.Nat.{ℕ}
 use native.Mathlib.Omega.{arith}
 use borrow.Author.Needs.{needs}
 use denote.Ref.{now}
@@ -14,7 +14,8 @@ use Rattle.bucket_hash.specs.BucketHash.{bucketOf}
 use Rattle.placement.proofs.CallLaws.{zeroed-over}
 use Rattle.multi.specs.declared.calls.Generated.{Generated}
 use Rattle.multi.specs.Calls.{Given, given, generateRoom, generateEarly, generating}
-use Rattle.multi.proofs.MakingCalls.{Early, early, early-part, call-refused, call-made}
+use Rattle.multi.proofs.GivenLaws.{Early, early, early-part}
+use Rattle.multi.proofs.GenerateLaws.{call-refused, call-made}
 use Rattle.multi.proofs.calls.generate_keys.Statement.{statement}
 use Rattle.multi.proofs.calls.generate_keys.Tie as tie
 
@@ -38,7 +39,8 @@ module _ (c : tie.Else1) where
 returns : tie.Need-returns
 returns c =
     let s = c .before .before .before .before .before .before .before .before .before in
-    ap (λ (r : Generated). generating r (now (s .args .scratch)) (now (s .args .key0)) (now (s .args .key1))) (c .refused .ensures)
+    ap (λ (r : Generated). generating r (now (s .args .scratch)) (now (s .args .key0)) (now (s .args .key1)))
+    (c .refused .ensures)
     ∙ call-refused treeHash bucketOf (what s) _ _ _ _ (c .before .before .generate-number .ensures) (c .before .if1 .taken)
 
 make-in-requires : tie.Need-make-in-requires
@@ -50,8 +52,11 @@ returns-2 : tie.Need-returns-2
 returns-2 c =
     let m = c .before .before .before .before .before .before .before .before .before .before in
     let e = m .before .before .before .before in
-    ap (λ (l : List ℕ). generating (m .make-in .result) l (m .make-in .last .1 .1 .1 .1 .1 .1 .1 .0) (m .make-in .last .1 .1 .1 .1 .1 .1 .1 .1 .0))
-    (c .before .before .zero-first .ensures ∙ zeroed-over (generateRoom (what (s e))) (now (s e .args .scratch)) (m .make-in .last .1 .1 .1 .1 .1 .1 .0) (omega (arith, m .make-in .kept, part-long e)) (facts e .room))
+    ap (λ (l : List ℕ). generating (m .make-in .result) l (m .make-in .last .1 .1 .1 .1 .1 .1 .1 .0)
+    (m .make-in .last .1 .1 .1 .1 .1 .1 .1 .1 .0))
+    (c .before .before .zero-first .ensures
+    ∙ zeroed-over (generateRoom (what (s e))) (now (s e .args .scratch)) (m .make-in .last .1 .1 .1 .1 .1 .1 .0)
+    (omega (arith, m .make-in .kept, part-long e)) (facts e .room))
     ∙ call-made treeHash bucketOf (what (s e)) _ _ _ _ _ _ (passed e) (m .make-in .ensures)
 
 pub generate-keys-spec : {M : Type 1} → statement M

@@ -1,7 +1,6 @@
--- `multi::image::next_start` meets its contract: an entry is 0, points elsewhere, or says where the next record begins; and there
--- is a record there or not. Assumes nothing.
+-- `multi::image::next_start` meets its contract: an entry is 0, points elsewhere, or says where the next record begins; and
+-- there is a record there or not. Assumes nothing.
 use mathlib.Core.Path.{_≡_, sym, ap, _∙_}
-use mathlib.Core.Bool.{Bool}
 use native.Mathlib.Omega.{arith}
 use borrow.Author.Needs.{needs}
 use denote.Ref.{now}
@@ -9,7 +8,8 @@ use lib.ListN.{length}
 use Rattle.words.specs.Limits.{largestSingle}
 use Rattle.single.specs.Record as single
 use Rattle.multi.specs.Image.{entryIn}
-use Rattle.multi.proofs.ImageLaws.{standing, next-none, next-elsewhere, next-bad, next-good}
+use Rattle.multi.proofs.RecordPlaces.{standing}
+use Rattle.multi.proofs.SlotLaws.{next-none, next-elsewhere, next-bad, next-good}
 use Rattle.multi.proofs.image.next_start.Statement.{statement}
 use Rattle.multi.proofs.image.next_start.Tie as tie
 
@@ -47,7 +47,8 @@ returns-3 : tie.Need-returns-3
 returns-3 c =
     let s = c .before .before .before .before .before .before .before in
     let e = c .before .before .before in
-    rw (c .before .before .part-at .ensures) (next-good (now (s .args .key)) (s .args .c) (some e) (s .args .at) (begins e) (s .pre .1) (asked (c .before) ∙ c .if3 .taken))
+    rw (c .before .before .part-at .ensures) (next-good (now (s .args .key)) (s .args .c) (some e) (s .args .at) (begins e)
+    (s .pre .1) (asked (c .before) ∙ c .if3 .taken))
 
 returns-4 : tie.Need-returns-4
 returns-4 c =
@@ -58,4 +59,5 @@ returns-4 c =
 pub next-start-spec : {M : Type 1} → statement M
 next-start-spec =
     tie.close
-    (tie.spec (λ c κs. search needs) returns returns-2 (λ c κs. search needs) (λ c κs. search needs) add-result returns-3 returns-4)
+    (tie.spec (λ c κs. search needs) returns returns-2 (λ c κs. search needs)
+    (λ c κs. search needs) add-result returns-3 returns-4)

@@ -1,4 +1,5 @@
--- `multi::image::numbers_ok` meets its contract: the tests in their order; `past-k` says that the first k hold, so the rest decide.
+-- `multi::image::numbers_ok` meets its contract: the tests in their order; `past-k` says that the first k hold, so the rest
+-- decide.
 -- Assumes nothing.
 use mathlib.Core.Path.{_≡_, sym, _∙_}
 use mathlib.Core.List.{List}

@@ -1,9 +1,10 @@
--- `multi::image::part_at` meets its contract: the record's size says how long the part is, and the image's end cuts it. Assumes nothing.
+-- `multi::image::part_at` meets its contract: the record's size says how long the part is, and the image's end cuts it.
+-- Assumes nothing.
 use mathlib.Core.Path.{sym, ap, _∙_}
 use native.Mathlib.Omega.{arith}
 use borrow.Author.Needs.{needs}
 use Rattle.single.specs.Record as single
-use Rattle.multi.proofs.ImageLaws.{part-past, part-short, part-cut}
+use Rattle.multi.proofs.RecordPlaces.{part-past, part-short, part-cut}
 use Rattle.multi.proofs.image.part_at.Statement.{statement}
 use Rattle.multi.proofs.image.part_at.Tie as tie
 

@@ -1,5 +1,5 @@
 -- `multi::image::record` meets its contract: nothing where the call refuses, else the bucket's part. Assumes nothing.
-use mathlib.Core.Path.{_≡_, sym, _∙_}
+use mathlib.Core.Path.{sym, _∙_}
 use borrow.Author.Needs.{needs}
 use Rattle.words.proofs.TestLaws.{succeeded, refused}
 use Rattle.multi.specs.Image.{recordGiven}

@@ -1,5 +1,5 @@
 -- `multi::image::record_number` meets its contract: Key, then Index. Assumes nothing.
-use mathlib.Core.Path.{_≡_, sym, ap, _∙_}
+use mathlib.Core.Path.{sym, ap, _∙_}
 use mathlib.Core.Bool.{not}
 use native.Mathlib.Omega.{arith}
 use borrow.Author.Needs.{needs}

@@ -1,5 +1,6 @@
--- `multi::image::record_place` meets its contract: zeros where the call refuses, else the entry and the part's length. Assumes nothing.
-use mathlib.Core.Path.{_≡_, sym, _∙_}
+-- `multi::image::record_place` meets its contract: zeros where the call refuses, else the entry and the part's length.
+-- Assumes nothing.
+use mathlib.Core.Path.{sym, _∙_}
 use borrow.Author.Needs.{needs}
 use Rattle.words.proofs.TestLaws.{succeeded, refused}
 use Rattle.multi.specs.Image.{placeOf}

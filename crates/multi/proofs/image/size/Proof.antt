@@ -2,12 +2,12 @@
 use mathlib.Core.Path.{ap, _∙_}
 use borrow.Author.Needs.{needs}
 use Rattle.single.specs.Record as single
-use Rattle.multi.specs.Image.{sizeIn}
+use Rattle.multi.specs.Image.{bucketSize}
 use Rattle.multi.proofs.image.size.Statement.{statement}
 use Rattle.multi.proofs.image.size.Tie as tie
 
 returns : tie.Need-returns
-unfolding sizeIn
+unfolding bucketSize
 returns c = c .get-u64 .ensures ∙ ap single.sizeIn (c .before .part .ensures)
 
 pub size-spec : {M : Type 1} → statement M

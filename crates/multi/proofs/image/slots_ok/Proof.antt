@@ -1,18 +1,16 @@
--- `multi::image::slots_ok` meets its contract. The invariant: the slots before c are ok, and `at` is where the next record has to
--- begin. The measure is how many slots are left. Assumes nothing.
-use mathlib.Core.Path.{_≡_, refl, sym, ap, _∙_}
-use mathlib.Core.Bool.{Bool, true}
-use mathlib.Core.List.{[], _∷_}
+-- `multi::image::slots_ok` meets its contract. The invariant: the slots before c are ok, and `at` is where the next record has
+-- to begin. The measure is how many slots are left. Assumes nothing.
+use mathlib.Core.Path.{_≡_, sym, ap, _∙_}
+use mathlib.Core.Bool.{true}
 use Prim.Native.Nat.{ℕ, _+_, _*_, _-_, _≤_}
 use native.Mathlib.Omega.{arith}
 use borrow.Author.Needs.{needs}
 use denote.Ref.{now}
-use lib.Dec.{eqb}
-use lib.ListN.{length}
 use Rattle.words.proofs.TestLaws.{every-pass, every-fail}
 use Rattle.single.proofs.RecordLaws.{every-one}
 use Rattle.multi.specs.Image.{nextIn, slotsOk}
-use Rattle.multi.proofs.ImageLaws.{start-first, slots-none, slots-more, slots-fail, next-on, next-off}
+use Rattle.multi.proofs.RecordPlaces.{recordStart-first}
+use Rattle.multi.proofs.SlotLaws.{next-on, next-off, slots-none, slots-more, slots-fail}
 use Rattle.multi.proofs.image.slots_ok.Statement.{statement}
 use Rattle.multi.proofs.image.slots_ok.Tie as tie
 
@@ -25,7 +23,7 @@ abbrev μ-loop : tie.MeasureT-loop
 loop-holds : tie.Need-loop-holds Inv-loop μ-loop
 loop-holds c =
     let s = c .before in
-    (search needs, sym (start-first _ _ ∙ ap (λ (b : ℕ). 72 + 8 * b) (sym (s .pre .0))), slots-none _)
+    (search needs, sym (recordStart-first _ _ ∙ ap (λ (b : ℕ). 72 + 8 * b) (sym (s .pre .0))), slots-none _)
 
 loop-again : tie.Need-loop-again Inv-loop μ-loop
 loop-again c =
@@ -36,7 +34,8 @@ loop-again c =
 returns : tie.Need-returns Inv-loop μ-loop
 returns c =
     let s = c .before .before .before .before .before in
-    sym (every-fail _ (slots-fail (now (s .args .key)) (s .args .n) _ (c .before .before .loop-test .taken) (next-off _ _ _ (c .before .next-start .ensures) (c .if1 .taken))))
+    sym (every-fail _ (slots-fail (now (s .args .key)) (s .args .n) _ (c .before .before .loop-test .taken)
+    (next-off _ _ _ (c .before .next-start .ensures) (c .if1 .taken))))
 
 returns-2 : tie.Need-returns-2 Inv-loop μ-loop
 returns-2 c =

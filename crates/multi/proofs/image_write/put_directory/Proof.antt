@@ -1,5 +1,5 @@
--- `multi::image_write::put_directory` meets its contract. The invariant: the entries before c are written, and `at` is where the
--- record of bucket c would begin. The measure is how many entries are left. Assumes nothing.
+-- `multi::image_write::put_directory` meets its contract. The invariant: the entries before c are written, and `at` is where
+-- the record of bucket c would begin. The measure is how many entries are left. Assumes nothing.
 use mathlib.Core.Path.{_≡_, refl, sym, ap, _∙_}
 use mathlib.Core.List.{List}
 use Prim.Native.Nat.{ℕ, _+_, _*_, _-_, _≤_}
@@ -9,27 +9,28 @@ use denote.Ref.{now}
 use lib.ListN.{length}
 use Rattle.words.specs.Bytes.{leBytes, put, stored}
 use Rattle.words.proofs.ByteLaws.{put-nil, length-put, length-leBytes, stored-next}
-use Rattle.multi.specs.Image.{startOf, entryFor, directoryBytes, lengthsBy}
-use Rattle.multi.proofs.ImageLaws.{start-first, start-next, start-le, start-least}
-use Rattle.multi.proofs.MultiReadsBack.{length-directory}
+use Rattle.multi.specs.Image.{recordStart, entryFor, directoryBytes, lengthsBy}
+use Rattle.multi.proofs.RecordPlaces.{recordStart-first, recordStart-next, recordStart-le, recordStart-least}
+use Rattle.multi.proofs.ImageBytes.{length-directory}
 use Rattle.multi.proofs.ImageWriteLaws.{entry-of, directory-next}
 use Rattle.multi.proofs.image_write.put_directory.Statement.{statement}
 use Rattle.multi.proofs.image_write.put_directory.Tie as tie
 
 abbrev Inv-loop : tie.InvT-loop
 Inv-loop n sizes buf₀ at₀ c₀ buf at c =
-    (c ≤ n) × (length buf ≡ length buf₀) × (at ≡ startOf n (lengthsBy sizes) c) × (buf ≡ put buf₀ 72 (directoryBytes n (lengthsBy sizes) c))
+    (c ≤ n) × (length buf ≡ length buf₀) × (at ≡ recordStart n (lengthsBy sizes) c)
+    × (buf ≡ put buf₀ 72 (directoryBytes n (lengthsBy sizes) c))
 
 abbrev μ-loop : tie.MeasureT-loop
 μ-loop n sizes buf₀ at₀ c₀ buf at c = n - c
 
 -- there is room for the directory
 room : (s : tie.Start Inv-loop μ-loop) → 72 + 8 * s .args .n ≤ length (now (s .args .buf))
-room s = omega (arith, s .pre .1, start-least (s .args .n) (lengthsBy (now (s .args .sizes))) (s .args .n))
+room s = omega (arith, s .pre .1, recordStart-least (s .args .n) (lengthsBy (now (s .args .sizes))) (s .args .n))
 
 loop-holds : tie.Need-loop-holds Inv-loop μ-loop
 unfolding directoryBytes
-loop-holds c = (search needs, refl, sym (start-first _ _), sym (put-nil _ _))
+loop-holds c = (search needs, refl, sym (recordStart-first _ _), sym (put-nil _ _))
 
 mul-record-length : tie.Need-mul-record-length Inv-loop μ-loop
 mul-record-length c = let enough = room (c .before .before .before .before) in omega arith
@@ -56,10 +57,12 @@ module _ (c : tie.After-entry-for Inv-loop μ-loop) where
   length-is = c .before .before .record-length .ensures
 
   entry-is : c .entry-for .result ≡ entryFor (s .args .n) lens at
-  entry-is = c .entry-for .ensures ∙ entry-of (s .args .n) lens at length-is (c .before .before .before .before .before .loop .inv .2)
+  entry-is =
+      c .entry-for .ensures ∙ entry-of (s .args .n) lens at length-is (c .before .before .before .before .before .loop .inv .2)
 
   -- the directory with this entry
-  more : {l : List ℕ} → l ≡ stored (c .before .before .before .before .before .loop .buf) (72 + 8 * at) (leBytes 8 (c .entry-for .result))
+  more : {l : List ℕ}
+      → l ≡ stored (c .before .before .before .before .before .loop .buf) (72 + 8 * at) (leBytes 8 (c .entry-for .result))
       → l ≡ put (now (s .args .buf)) 72 (directoryBytes (s .args .n) lens (at + 1))
   more e =
       let entry = entryFor (s .args .n) lens at in
@@ -76,8 +79,8 @@ add-at-2 : tie.Need-add-at-2 Inv-loop μ-loop
 add-at-2 c =
     let e = c .before .before .before in
     let l = c .before .before .before .before .before .before .before .before in
-    let next = start-next (s e .args .n) (lens e) (at e) in
-    let most = start-le (s e .args .n) (lens e) (at e + 1) (s e .args .n) (omega arith) in
+    let next = recordStart-next (s e .args .n) (lens e) (at e) in
+    let most = recordStart-le (s e .args .n) (lens e) (at e + 1) (s e .args .n) (omega arith) in
     omega (arith, length-is e, l .loop .inv .2, s e .pre .1, s e)
 
 loop-again : tie.Need-loop-again Inv-loop μ-loop
@@ -87,10 +90,12 @@ loop-again c =
     let now-is = more e (c .before .before .put-u64 .ensures .1) in
     let long = length-directory (s e .args .n) (lens e) (at e + 1) in
     let enough = room (s e) in
-    let below : at e + 1 ≤ s e .args .n = omega (arith, c .before .before .before .before .before .before .before .loop-test .taken) in (
+    let below : at e + 1 ≤ s e .args .n =
+    omega (arith, c .before .before .before .before .before .before .before .loop-test .taken) in (
       below,
       ap length now-is ∙ length-put _ _ _ (omega arith),
-      ap (λ (n : ℕ). l .at + n) (length-is e) ∙ ap (λ (n : ℕ). n + lens e (at e)) (l .inv .2) ∙ sym (start-next (s e .args .n) (lens e) (at e)),
+      ap (λ (n : ℕ). l .at + n) (length-is e) ∙ ap (λ (n : ℕ). n + lens e (at e)) (l .inv .2)
+          ∙ sym (recordStart-next (s e .args .n) (lens e) (at e)),
       now-is,
     )
 

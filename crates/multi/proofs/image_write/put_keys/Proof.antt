@@ -6,7 +6,7 @@ use native.Mathlib.Omega.{arith}
 use borrow.Author.Needs.{needs}
 use lib.ListN.{length, drop, length-set}
 use Rattle.words.specs.Bytes.{put}
-use Rattle.multi.proofs.ImageWriteLaws.{copy-step, copy-done}
+use Rattle.multi.proofs.CopyLaws.{copy-step, copy-done}
 use Rattle.multi.proofs.image_write.put_keys.Statement.{statement}
 use Rattle.multi.proofs.image_write.put_keys.Tie as tie
 
@@ -21,13 +21,16 @@ loop-holds c = (search needs, refl, refl)
 
 loop-again : tie.Need-loop-again Inv-loop μ-loop
 loop-again c =
-    let l = c .before .loop in
-    (search needs, simp length-set (l .inv .1), sym (copy-step _ 24 (l .i) _ (omega arith) (omega arith)) ∙ l .inv .2)
+    let l = c .before .loop in (
+      search needs,
+      simp length-set (l .inv .1),
+      sym (copy-step _ (24 + l .i) (24 + (l .i + 1)) (l .i) _ (omega arith) (omega arith) (omega arith)) ∙ l .inv .2,
+    )
 
 returns : tie.Need-returns Inv-loop μ-loop
 returns c =
     let l = c .before .loop in
-    sym (copy-done _ 24 (l .i) _ (omega arith)) ∙ l .inv .2
+    sym (copy-done _ (24 + l .i) (l .i) _ (omega arith)) ∙ l .inv .2
 
 pub put-keys-spec : {M : Type 1} → statement M
 put-keys-spec =

@@ -4,11 +4,10 @@ use mathlib.Core.Path.{_≡_, sym, ap, _∙_}
 use mathlib.Core.Bool.{Bool, not}
 use mathlib.Core.List.{List, []}
 use Prim.Native.Nat.{ℕ}
-use native.Mathlib.Omega.{arith}
 use borrow.Author.Needs.{needs}
 use borrow.Author.Tests.{eq-eqb, ne-eqb, lt-ltb, le-ltb}
 use denote.Ref.{now}
-use lib.ListN.{length, drop}
+use lib.ListN.{drop}
 use Rattle.words.specs.Refusals.{first}
 use Rattle.words.proofs.TestLaws.{first-none, first-hit, first-miss}
 use Rattle.multi.specs.Calls.{given, generateEarly}
@@ -45,7 +44,8 @@ past-7 c = past-6 (c .before) ∙ first-miss _ _ (ap not (eq-eqb _ _ (c .if7 .le
 past-8 : (c : tie.Else8) → Past 8 (c .before .before .before .before .before .before .before .before .before .before .before)
 past-8 c = past-7 (c .before .before) ∙ first-miss _ _ (ap not (sym (c .before .rising .ensures)) ∙ c .if8 .left)
 
-past-9 : (c : tie.Else9) → Past 9 (c .before .before .before .before .before .before .before .before .before .before .before .before)
+past-9 : (c : tie.Else9)
+    → Past 9 (c .before .before .before .before .before .before .before .before .before .before .before .before)
 past-9 c = past-8 (c .before) ∙ first-miss _ _ (le-ltb _ _ (c .if9 .left))
 
 returns : tie.Need-returns

@@ -1,21 +1,18 @@
--- `multi::make::put_records` meets its contract. The invariant is `Laying`: the records of the buckets before c are written. The
--- measure is how many buckets are left. Assumes nothing.
-use mathlib.Core.Path.{_≡_, refl, sym, ap, _∙_}
+-- `multi::make::put_records` meets its contract. The invariant is `Laying`: the records of the buckets before c are written.
+-- The measure is how many buckets are left. Assumes nothing.
+use mathlib.Core.Path.{ap, _∙_}
 use mathlib.Core.List.{List}
-use mathlib.Core.Bool.{true, false}
 use Prim.Native.Nat.{ℕ, _+_, _*_, _-_, _≤_, _<_}
 use native.Mathlib.Omega.{arith}
 use borrow.Author.Needs.{needs}
 use denote.Ref.{now}
 use lib.ListN.{length, getD}
-use Rattle.words.specs.Bytes.{put}
 use Rattle.cipher.specs.TreeHash.{hashBy}
 use Rattle.single.specs.Record as single
 use Rattle.multi.specs.Rules.{wordsFor}
-use Rattle.multi.specs.Image.{startOf, lengthsBy, recordsBytes}
-use Rattle.multi.specs.Making.{laidBytes}
-use Rattle.multi.proofs.ImageLaws.{start-least}
-use Rattle.multi.proofs.MakingLaws.{Laying, laying-none, laying-room0, laying-room1, laying-more, length-most}
+use Rattle.multi.specs.Image.{lengthsBy}
+use Rattle.multi.proofs.RecordPlaces.{recordStart-least}
+use Rattle.multi.proofs.LayingLaws.{Laying, laying-none, laying-all, laying-room0, laying-room1, laying-more}
 use Rattle.multi.proofs.make.put_records.Statement.{statement}
 use Rattle.multi.proofs.make.put_records.Tie as tie
 
@@ -28,7 +25,12 @@ abbrev μ-loop : tie.MeasureT-loop
 
 -- there is room for the directory
 room : (s : tie.Start Inv-loop μ-loop) → 72 + 8 * length (now (s .args .sizes)) ≤ length (now (s .args .key0))
-room s = omega (arith, s .pre .first, start-least (length (now (s .args .sizes))) (lengthsBy (now (s .args .sizes))) (length (now (s .args .sizes))))
+room s =
+    omega (
+      arith,
+      s .pre .first,
+      recordStart-least (length (now (s .args .sizes))) (lengthsBy (now (s .args .sizes))) (length (now (s .args .sizes))),
+    )
 
 loop-holds : tie.Need-loop-holds Inv-loop μ-loop
 loop-holds c = laying-none _ _ _ _ _ _ _ _
@@ -53,7 +55,7 @@ module _ (i : tie.In-loop Inv-loop μ-loop) where
 put-bucket-requires : tie.Need-put-bucket-requires Inv-loop μ-loop
 put-bucket-requires c κs =
     let i = c .before .before in
-    (omega (arith, few i), s i .pre .small (i .before .loop .c), room0 i, room1 i)
+    (omega (arith, few i), s i .pre .small (i .before .loop .c), s i .pre .inside (i .before .loop .c), room0 i, room1 i)
 
 add-at-2 : tie.Need-add-at-2 Inv-loop μ-loop
 add-at-2 c =
@@ -62,24 +64,24 @@ add-at-2 c =
     omega (arith, next, room0 i, i .before .loop .inv .same0, s i)
 
 add-used : tie.Need-add-used Inv-loop μ-loop
-add-used c = omega (arith, c .words-for .ensures, few (c .before .before .before .before .before .before .before .before .before .before))
+add-used c =
+    omega (
+      arith,
+      c .words-for .ensures,
+      few (c .before .before .before .before .before .before .before .before .before .before),
+    )
 
 loop-again : tie.Need-loop-again Inv-loop μ-loop
 loop-again c =
     let i = c .before .before .before .before .before .before .before .before .before .before in
     let size = c .before .before .element .ensures in
     let bucket = c .before .before .before .before .before .before .before .put-bucket in
-    laying-more _ _ _ _ _ _ _ _ _ _ _ _ _ (s i .pre) (i .before .loop .inv) (i .loop-test .taken) _ _ (bucket .ensures .0) (bucket .ensures .1)
+    laying-more _ _ _ _ _ _ _ _ _ _ _ _ _ (s i .pre) (i .before .loop .inv) (i .loop-test .taken) _ _ (bucket .ensures .0)
+    (bucket .ensures .1)
     (c .before .record-length .ensures ∙ ap single.lengthFor size) (c .words-for .ensures ∙ ap wordsFor size)
 
 returns : tie.Need-returns Inv-loop μ-loop
-returns c =
-    let l = c .before .loop in
-    let a = c .before .before .before .before .before .before .before .before .before .args in
-    let e : l .c ≡ length (now (a .sizes)) = omega (arith, l .inv .within) in (
-      l .inv .first ∙ ap (λ (n : ℕ). put (now (a .key0)) (72 + 8 * length (now (a .sizes))) (recordsBytes (laidBytes (hashBy (a .h)) (now (a .holders)) (now (a .sizes)) (now (a .spots)) (now (a .values)) (now (a .words)) false) n)) e,
-      l .inv .second ∙ ap (λ (n : ℕ). put (now (a .key1)) (72 + 8 * length (now (a .sizes))) (recordsBytes (laidBytes (hashBy (a .h)) (now (a .holders)) (now (a .sizes)) (now (a .spots)) (now (a .values)) (now (a .words)) true) n)) e,
-    )
+returns c = laying-all _ _ _ _ _ _ _ _ _ _ _ _ _ (c .before .loop .inv) (omega arith)
 
 pub put-records-spec : {M : Type 1} → statement M
 put-records-spec =

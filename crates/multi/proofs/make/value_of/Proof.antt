@@ -1,7 +1,7 @@
 -- `multi::make::value_of` meets its contract. Assumes nothing.
 use mathlib.Core.Path.{sym, _∙_}
 use borrow.Author.Needs.{needs}
-use Rattle.multi.proofs.MakingLaws.{value-none, value-some}
+use Rattle.multi.proofs.RecordWrites.{value-none, value-some}
 use Rattle.multi.proofs.make.value_of.Statement.{statement}
 use Rattle.multi.proofs.make.value_of.Tie as tie
 

@@ -1,42 +1,46 @@
 -- `multi::read::add_to_number` meets its contract: Key, then Table, then Scratch. Assumes nothing.
 use mathlib.Core.Path.{_≡_, sym, ap, _∙_}
-use mathlib.Core.Bool.{not}
+use mathlib.Core.Bool.{false, not}
 use native.Mathlib.Omega.{arith}
 use borrow.Author.Needs.{needs}
 use borrow.Author.Tests.{not-false, eq-eqb, ne-eqb, lt-ltb, le-ltb}
 use denote.Ref.{now}
-use Rattle.words.proofs.TestLaws.{first-none, first-hit, first-miss}
-use Rattle.multi.specs.Image.{domainIn}
+use lib.Dec.{eqb}
+use Rattle.single.proofs.CallLaws.{first-of, second-of, third-of, none-of}
+use Rattle.multi.specs.Image.{domainIn, multiOk}
 use Rattle.multi.specs.Calls.{domainRoom}
 use Rattle.multi.proofs.read.add_to_number.Statement.{statement}
 use Rattle.multi.proofs.read.add_to_number.Tie as tie
 
 returns : tie.Need-returns
-returns c = sym (first-hit _ _ (ap not (sym (c .before .image-ok .ensures)) ∙ c .if1 .taken))
+returns c = sym (first-of _ _ _ (ap not (sym (c .before .image-ok .ensures)) ∙ c .if1 .taken))
+
+-- past the first test
+passes : (c : tie.Else1) → not (multiOk (now (c .before .before .before .args .key))) ≡ false
+passes c = ap not (sym (c .before .image-ok .ensures)) ∙ c .if1 .left
 
 returns-2 : tie.Need-returns-2
 returns-2 c =
     let a = c .before .before .before .before .before .args in
-    sym (first-miss _ _ (ap not (sym (c .before .before .before .image-ok .ensures)) ∙ c .before .before .if1 .left)
-    ∙ first-hit _ _ (ap not (ne-eqb (a .cells) (domainIn (now (a .key))) (λ e. c .if2 .taken (e ∙ sym (c .before .domain .ensures))))))
+    sym (second-of _ _ _ (passes (c .before .before))
+    (ap not (ne-eqb (a .cells) (domainIn (now (a .key))) (λ e. c .if2 .taken (e ∙ sym (c .before .domain .ensures))))))
 
-domain-room-requires : tie.Need-domain-room-requires
-domain-room-requires c κs = sym (c .before .before .before .image-ok .ensures) ∙ not-false _ (c .before .before .if1 .left)
+-- past the second
+fits : (c : tie.Else2)
+    → let a = c .before .before .before .before .before .args in not (eqb (a .cells) (domainIn (now (a .key)))) ≡ false
+fits c = ap not (eq-eqb _ _ (c .if2 .left ∙ c .before .domain .ensures))
 
 returns-3 : tie.Need-returns-3
 returns-3 c =
     let a = c .before .before .before .before .before .before .before .args in
-    sym (first-miss _ _ (ap not (sym (c .before .before .before .before .before .image-ok .ensures)) ∙ c .before .before .before .before .if1 .left)
-    ∙ first-miss _ _ (ap not (eq-eqb (a .cells) (domainIn (now (a .key))) (c .before .before .if2 .left ∙ c .before .before .before .domain .ensures)))
-    ∙ first-hit _ _ (lt-ltb (a .len) (domainRoom (now (a .key))) (omega (arith, c .before .domain-room .ensures))))
+    sym (third-of _ _ _ (passes (c .before .before .before .before)) (fits (c .before .before))
+    (lt-ltb (a .len) (domainRoom (now (a .key))) (omega (arith, c .before .domain-room .ensures))))
 
 returns-4 : tie.Need-returns-4
 returns-4 c =
     let a = c .before .before .before .before .before .before .before .args in
-    sym (first-miss _ _ (ap not (sym (c .before .before .before .before .before .image-ok .ensures)) ∙ c .before .before .before .before .if1 .left)
-    ∙ first-miss _ _ (ap not (eq-eqb (a .cells) (domainIn (now (a .key))) (c .before .before .if2 .left ∙ c .before .before .before .domain .ensures)))
-    ∙ first-miss _ _ (le-ltb (a .len) (domainRoom (now (a .key))) (omega (arith, c .before .domain-room .ensures)))
-    ∙ first-none)
+    sym (none-of _ _ _ (passes (c .before .before .before .before)) (fits (c .before .before))
+    (le-ltb (a .len) (domainRoom (now (a .key))) (omega (arith, c .before .domain-room .ensures))))
 
 pub add-to-number-spec : {M : Type 1} → statement M
 add-to-number-spec =
@@ -46,6 +50,6 @@ add-to-number-spec =
     returns
     (λ c κs. search needs)
     returns-2
-    domain-room-requires
+    (λ c κs. not-false _ (passes (c .before .before)))
     returns-3
     returns-4)

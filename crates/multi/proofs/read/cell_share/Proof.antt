@@ -1,5 +1,4 @@
 -- `multi::read::cell_share` meets its contract: three shares, each of a record that is there. Assumes nothing.
-use mathlib.Core.Path.{_≡_}
 use borrow.Author.Needs.{needs}
 use Rattle.multi.specs.Rules.{cellShare}
 use Rattle.multi.proofs.read.cell_share.Statement.{statement}

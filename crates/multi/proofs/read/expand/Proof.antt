@@ -1,5 +1,5 @@
--- `multi::read::expand` meets its contract. The invariant is `Spreading`: the parts of the buckets before c are in their places. The
--- measure is how many buckets are left. Assumes nothing.
+-- `multi::read::expand` meets its contract. The invariant is `Expanding`: the parts of the buckets before c are in their
+-- places. The measure is how many buckets are left. Assumes nothing.
 use mathlib.Core.Path.{_≡_, ap, _∙_}
 use mathlib.Core.List.{List}
 use Prim.Native.Nat.{ℕ, _+_, _*_, _-_, _≤_, _<_}
@@ -10,20 +10,20 @@ use lib.Dec.{eqb}
 use lib.ListN.{length, getD}
 use Rattle.words.specs.Cells.{sumTo}
 use Rattle.cipher.specs.TreeHash.{hashBy}
-use Rattle.multi.specs.Image.{bucketsIn, sizeIn}
+use Rattle.multi.specs.Image.{bucketsIn, bucketSize}
 use Rattle.multi.specs.Reading.{spreadOut}
-use Rattle.multi.proofs.ReadLaws.{Spreading, spreading-none, spreading-start, spreading-room, spreading-next, spreading-all}
+use Rattle.multi.proofs.ExpandLaws.{Expanding, expanding-none, expanding-all, expanding-room, expanding-start, expanding-next}
 use Rattle.multi.proofs.read.expand.Statement.{statement}
 use Rattle.multi.proofs.read.expand.Tie as tie
 
 abbrev Inv-loop : tie.InvT-loop
-Inv-loop h key work₀ n party c₀ work c = Spreading (hashBy h) party key work₀ c work
+Inv-loop h key work₀ n party c₀ work c = Expanding (hashBy h) party key work₀ c work
 
 abbrev μ-loop : tie.MeasureT-loop
 μ-loop h key work₀ n party c₀ work c = n - c
 
 loop-holds : tie.Need-loop-holds Inv-loop μ-loop
-loop-holds c = spreading-none _ _ _ _
+loop-holds c = expanding-none _ _ _ _
 
 -- ---- in the loop, where bucket c is expanded
 
@@ -45,12 +45,16 @@ buckets p = p .before .before .before .buckets .ensures
 below : (p : Inside) → bucket p < bucketsIn (image p)
 below p = omega (arith, p .loop-test .taken, buckets p)
 
-starts : (p : Inside) → getD (p .before .loop .work) (bucket p) 0 ≡ sumTo (bucket p) (sizeIn (image p))
-starts p = spreading-start _ _ _ _ (start p .pre .1) (bucket p) (below p) _ (p .before .loop .inv)
+starts : (p : Inside) → getD (p .before .loop .work) (bucket p) 0 ≡ sumTo (bucket p) (bucketSize (image p))
+starts p = expanding-start _ _ _ _ (start p .pre .1) (bucket p) (below p) _ (p .before .loop .inv)
 
-room : (p : Inside) → bucketsIn (image p) + bucketsIn (image p) + 2 * sumTo (bucket p) (sizeIn (image p)) + 2 * sizeIn (image p) (bucket p)
+room : (p : Inside)
+    → bucketsIn (image p) + bucketsIn (image p) + 2 * sumTo (bucket p) (bucketSize
+    (image p)) + 2 * bucketSize (image p) (bucket p)
     ≤ length (now (start p .args .work))
-room p = spreading-room (hashBy (start p .args .h)) (eqb (p .before .before .party .result) 1) _ _ (start p .pre .1) (bucket p) (below p)
+room p =
+    expanding-room (hashBy (start p .args .h)) (eqb (p .before .before .party .result) 1) _ _ (start p .pre .1) (bucket p)
+    (below p)
 
 long : (p : Inside) → length (p .before .loop .work) ≡ length (now (start p .args .work))
 long p = p .before .loop .inv .long
@@ -76,7 +80,8 @@ expand-one-requires c κs =
 loop-again : tie.Need-loop-again Inv-loop μ-loop
 loop-again c =
     let p = c .before .before .before .before .before in
-    spreading-next _ _ _ _ (start p .pre .1) (bucket p) (below p) _ _ _ (p .before .loop .inv) (omega (arith, buckets p, starts p))
+    expanding-next _ _ _ _ (start p .pre .1) (bucket p) (below p) _ _ _ (p .before .loop .inv)
+    (omega (arith, buckets p, starts p))
     (c .before .before .expand-one .ensures)
 
 -- ---- after it
@@ -89,8 +94,9 @@ returns c =
     let l = c .before .loop in
     let a = c .before .before .before .before .before .before .args in
     let key = now (a .key) in
-    spreading-all _ _ _ _ (l .c) _ (l .inv) (omega (arith, c .loop-test .left, c .before .before .before .buckets .ensures))
-    ∙ ap (λ (p : ℕ). spreadOut (hashBy (a .h)) (eqb p 1) key (bucketsIn key) (now (a .work))) (c .before .before .party .ensures)
+    expanding-all _ _ _ _ (l .c) _ (l .inv) (omega (arith, c .loop-test .left, c .before .before .before .buckets .ensures))
+    ∙ ap (λ (p : ℕ). spreadOut (hashBy (a .h)) (eqb p 1) key (bucketsIn key) (now (a .work)))
+    (c .before .before .party .ensures)
 
 pub expand-spec : {M : Type 1} → statement M
 expand-spec =

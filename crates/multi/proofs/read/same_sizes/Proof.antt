@@ -1,20 +1,20 @@
 -- `multi::read::same_sizes` meets its contract. The invariant: the sizes before c agree. The measure is how many are left.
 -- Assumes nothing.
-use mathlib.Core.Path.{_≡_, refl, sym, ap, _∙_}
+use mathlib.Core.Path.{_≡_, sym, _∙_}
 use mathlib.Core.Bool.{true}
-use Prim.Native.Nat.{ℕ, _+_, _-_, _≤_}
+use Prim.Native.Nat.{_-_, _≤_}
 use native.Mathlib.Omega.{arith}
 use borrow.Author.Needs.{needs}
 use denote.Ref.{now}
 use lib.ListN.{length, getD}
-use Rattle.multi.specs.Image.{sizeIn}
+use Rattle.multi.specs.Image.{bucketSize}
 use Rattle.multi.specs.Calls.{alike}
 use Rattle.multi.proofs.CallLaws.{alike-none, alike-next, alike-fails}
 use Rattle.multi.proofs.read.same_sizes.Statement.{statement}
 use Rattle.multi.proofs.read.same_sizes.Tie as tie
 
 abbrev Inv-loop : tie.InvT-loop
-Inv-loop key sizes c₀ c = (c ≤ length sizes) × (alike (sizeIn key) (λ i. getD sizes i 0) c ≡ true)
+Inv-loop key sizes c₀ c = (c ≤ length sizes) × (alike (bucketSize key) (λ i. getD sizes i 0) c ≡ true)
 
 abbrev μ-loop : tie.MeasureT-loop
 μ-loop key sizes c₀ c = length sizes - c
@@ -26,7 +26,8 @@ returns : tie.Need-returns Inv-loop μ-loop
 returns c =
     let a = c .before .before .before .before .before .before .before .args in
     let l = c .before .before .before .before .loop in
-    sym (alike-fails (sizeIn (now (a .key))) (λ i. getD (now (a .sizes)) i 0) _ (l .c) (c .before .before .before .loop-test .taken)
+    sym (alike-fails (bucketSize (now (a .key))) (λ i. getD (now (a .sizes)) i 0) _ (l .c)
+    (c .before .before .before .loop-test .taken)
     (λ e. c .if1 .taken (c .before .before .size .ensures ∙ e)))
 
 loop-again : tie.Need-loop-again Inv-loop μ-loop

@@ -1,5 +1,4 @@
 -- `multi::read::share_over` meets its contract: a sum modulo 2 ^ 64 of a sum modulo 2 ^ 64. Assumes nothing.
-use mathlib.Core.Path.{_≡_}
 use native.Mathlib.Nat.{add-mod-mod}
 use borrow.Author.Needs.{needs}
 use Rattle.words.specs.Ring.{add}
@@ -23,4 +22,5 @@ returns c =
 pub share-over-spec : {M : Type 1} → statement M
 share-over-spec =
     tie.close
-    (tie.spec (λ c κs. search needs) (λ c κs. search needs) (λ c κs. search needs) (λ c κs. search needs) (λ c κs. search needs) returns)
+    (tie.spec (λ c κs. search needs) (λ c κs. search needs) (λ c κs. search needs) (λ c κs. search needs)
+    (λ c κs. search needs) returns)

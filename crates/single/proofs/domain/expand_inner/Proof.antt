@@ -1,5 +1,5 @@
--- `single::domain::expand_inner` meets its contract. The invariant is `Layered`: layer j stands in the slice. The measure is the
--- number of layers that are left. Assumes nothing.
+-- `single::domain::expand_inner` meets its contract. The invariant is `Layered`: layer j stands in the slice. The measure is
+-- the number of layers that are left. Assumes nothing.
 use Prim.Native.Nat.{_+_, _-_, _/_, _^_, _≤_}
 use lib.Pow.{shr-le}
 use native.Mathlib.Omega.{arith}
@@ -20,7 +20,9 @@ abbrev μ-loop : tie.MeasureT-loop
 -- each layer has at most as many nodes as there are cells
 small : (c : tie.At-loop Inv-loop μ-loop) → let a = c .before .before .before .before .before .before .before .args in
     (a .t2 .size - 1) / 2 ^ (a .t2 .count - c .loop .j) + 1 ≤ a .t2 .size
-small c = omega (arith, shr-le (c .before .before .before .before .before .before .before .args .t2 .size - 1) (c .before .before .before .before .before .before .before .args .t2 .count - c .loop .j), c .before .before .before .before .before .before .before .pre .1 .0)
+small c =
+    let s = c .before .before .before .before .before .before .before in
+    omega (arith, shr-le (s .args .t2 .size - 1) (s .args .t2 .count - c .loop .j), s .pre .1 .0)
 
 loop-holds : tie.Need-loop-holds Inv-loop μ-loop
 loop-holds c =
@@ -52,9 +54,11 @@ expand-layer-requires c κs = omega (arith, small (c .before .before .before .be
 
 loop-again : tie.Need-loop-again Inv-loop μ-loop
 loop-again c =
-    let a = c .before .before .before .before .before .before .before .before .before .before .before .before .before .before .args in
-    let l = c .before .before .before .before .before .before .before .loop in
-    layered-more (hashBy (a .h)) (a .t2 .lows) (a .t2 .highs) (a .t2 .seed) (a .t2 .size - 1) (a .t2 .count) _ (l .j) (c .before .before .before .before .before .before .loop-test .taken) (l .inv)
+    let c2 = c .before .before .before .before .before .before in
+    let c1 = c2 .before in
+    let a = c1 .before .before .before .before .before .before .before .args in
+    let l = c1 .loop in
+    layered-more (hashBy (a .h)) (a .t2 .lows) (a .t2 .highs) (a .t2 .seed) (a .t2 .size - 1) (a .t2 .count) _ (l .j) (c2 .loop-test .taken) (l .inv)
     (c .before .before .expand-layer .ensures) (search needs)
 
 returns : tie.Need-returns Inv-loop μ-loop

@@ -12,15 +12,20 @@ use Rattle.single.proofs.domain.spread_shares.Tie as tie
 
 returns : tie.Need-returns
 returns c =
-    let a = c .before .before .before .before .before .before .before .args in
-    spread-one (hashBy (a .h)) 64 (a .party) (recordOf (a .k)) (now (a .nodes)) (c .before .before .before .before .if1 .taken) (c .before .before .set-node .ensures)
+    let c1 = c .before .before .before .before in
+    let a = c1 .before .before .before .args in
+    spread-one (hashBy (a .h)) 64 (a .party) (recordOf (a .k)) (now (a .nodes)) (c1 .if1 .taken) (c .before .before .set-node .ensures)
 
 returns-2 : tie.Need-returns-2
 returns-2 c =
-    let s = c .before .before .before .before .before .before .before .before .before .before .before .before in
+    let c3 = c .before .before .before .before in
+    let c2 = c3 .before .before .before in
+    let c1 = c2 .before .before in
+    let s = c1 .before .before .before in
     let a = s .args in
-    let many : 1 < a .k .size = omega (arith, s .pre .0 .some, c .before .before .before .before .before .before .before .before .before .if1 .left) in
-    spread-all (hashBy (a .h)) 64 (a .party) (recordOf (a .k)) (now (a .nodes)) many (c .before .before .before .before .end-in .ensures) (c .before .before .before .before .before .before .before .expand-inner .ensures) (c .before .before .expand-last .ensures)
+    let many : 1 < a .k .size = omega (arith, s .pre .0 .some, c1 .if1 .left) in
+    spread-all (hashBy (a .h)) 64 (a .party) (recordOf (a .k)) (now (a .nodes)) many (c3 .end-in .ensures) (c2 .expand-inner .ensures)
+    (c .before .before .expand-last .ensures)
 
 pub spread-shares-spec : {M : Type 1} → statement M
 spread-shares-spec =
