@@ -1,9 +1,9 @@
-//! Safe calls of libmorgnet.a, one for each function of include/morgnet.h and under its name: slices
-//! for pointers with lengths, [`Refusal`] for a number, and results only where there are any.
+//! Safe calls of libmorgnet.a, one for each function of include/morgnet.h and under its name without
+//! `morgnet_`: slices for pointers with lengths, [`Refusal`] for a number, and results only where there
+//! are any.
 //!
 //! Only this file is `unsafe`; so the benchmark's clock, a call of the C library, stands at its end.
-//! Nothing checks the `extern` block against the header but the tests,
-//! which run every call.
+//! Nothing checks the `extern` block against the header but the tests, which run every call.
 #![allow(unsafe_code)]
 #![allow(clippy::too_many_arguments)]
 

@@ -11,7 +11,7 @@ const MOST_BUCKETS: u64 = 65_535;
 pub const TRIES: u64 = 20;
 
 /// The bucket count for `points` points, unless the user names one: 9 buckets for 5 points and 48 more,
-/// at most 65,535. Placement then seldom gives up: measured, once in 120,000 draws of hash keys for 2
+/// at most 65,535. Placement then seldom gives up: measured, once in 114,000 draws of hash keys for 2
 /// points, seldomer for 3 to 5, and in none of those tried for 10 to 58,000 (docs/BENCH.md). Above 60,000
 /// points they do not fit into 65,535 buckets.
 pub fn default_buckets(points: u64) -> u64 {

@@ -1,7 +1,7 @@
 //! Morgnet for Rust: point functions shared between two parties, by the proved code of libmorgnet.a.
 //!
 //! - [`face`] every call of include/morgnet.h, safe; all that is `unsafe` stands there;
-//! - [`Refusal`] what a call refuses by, named and numbered as in document 01;
+//! - [`Refusal`] what a call refuses by, named and numbered as in docs/RULES.md;
 //! - [`keys`] making pairs of keys with random words from the system, reading them, adding them;
 //! - [`posting`] posting files, lines `cell,value`;
 //! - [`files`] key and table files, which appear whole or not at all;

@@ -1,4 +1,4 @@
-//! The refusals, by the names and numbers of document 01.
+//! The refusals, by the names and numbers of docs/RULES.md, "Refusals".
 
 use std::fmt;
 

@@ -3,7 +3,7 @@
 use std::path::{Path, PathBuf};
 use std::process::Command;
 
-const SOURCES: [&str; 9] = [
+const SOURCES: [&str; 10] = [
     "main.c",
     "support.c",
     "layers.c",
@@ -13,6 +13,7 @@ const SOURCES: [&str; 9] = [
     "multi.c",
     "multi_refusals.c",
     "threads.c",
+    "stack.c",
 ];
 
 /// Compiles C sources, linked with the library, and runs them. Gives what they print.

@@ -1,10 +1,12 @@
 //! The oracle's answers, replayed over the safe wrapper: its lists, whose format is in
-//! oracle/README.md. Every lent byte is a5 before a call, and every slice is compared as a whole.
+//! oracle/README.md. Before a call every byte of a key buffer, an output or a table is a5, and every byte of scratch 5a, so that
+//! what is copied out of scratch shows; every slice is compared as a whole.
 
 use morgnet::{face, Refusal};
 use std::path::Path;
 
 const FILL: u64 = 0xa5a5_a5a5_a5a5_a5a5;
+const SCRATCH: u64 = 0x5a5a_5a5a_5a5a_5a5a;
 const HEAD: usize = 256;
 // How cells are read; a sum says several ways.
 const AT: u64 = 1;
@@ -38,19 +40,20 @@ impl Fields<'_> {
     }
 }
 
-fn filled(count: u64) -> Vec<u64> {
-    vec![FILL; count as usize]
+fn filled(fill: u64, count: u64) -> Vec<u64> {
+    vec![fill; count as usize]
 }
 
 /// A slice whose first elements are `front` and whose others are as they were.
-fn fronted(front: &[u64], count: u64) -> Vec<u64> {
-    let mut slice = filled(count);
+fn fronted(front: &[u64], fill: u64, count: u64) -> Vec<u64> {
+    let mut slice = filled(fill, count);
     slice[..front.len()].copy_from_slice(front);
     slice
 }
 
+/// Scratch whose first elements are zeros and whose others are as they were.
 fn zeroed(zeros: u64, count: u64) -> Vec<u64> {
-    fronted(&vec![0; zeros as usize], count)
+    fronted(&vec![0; zeros as usize], SCRATCH, count)
 }
 
 fn buffer(front: &[u8], length: u64) -> Vec<u8> {
@@ -101,7 +104,7 @@ impl Replay {
         let (points, values, words) = (f.numbers(points), f.numbers(values), f.numbers(words));
         let images = [f.bytes(length), f.bytes(length)];
         let (mut key0, mut key1) = (buffer(&[], length0), buffer(&[], length1));
-        let mut scratch = filled(room);
+        let mut scratch = filled(SCRATCH, room);
         let made = face::multi_generate_keys(
             domain,
             buckets,
@@ -126,7 +129,7 @@ impl Replay {
         let shares = f.numbers(count);
         let key = &self.pair[party as usize];
         for (cell, share) in (first..).zip(&shares).filter(|_| how & AT != 0) {
-            let mut scratch = filled(at_room);
+            let mut scratch = filled(SCRATCH, at_room);
             let read = match multi {
                 false => face::single_evaluate_at(key, cell),
                 true => face::multi_evaluate_at(key, cell, &mut scratch),
@@ -136,8 +139,8 @@ impl Replay {
             self.calls += 1;
         }
         for way in [DOMAIN, ADD].into_iter().filter(|way| how & way != 0) {
-            let mut scratch = filled(room);
-            let mut slice = filled(if way == DOMAIN { out } else { count });
+            let mut scratch = filled(SCRATCH, room);
+            let mut slice = filled(FILL, if way == DOMAIN { out } else { count });
             let done = match (multi, way) {
                 (false, DOMAIN) => face::single_evaluate_domain(key, &mut scratch, &mut slice),
                 (false, _) => face::single_add_to(key, &mut scratch, &mut slice),
@@ -147,7 +150,7 @@ impl Replay {
             assert_eq!(done, Ok(()));
             assert_eq!(scratch, zeroed(zeros, room));
             let added: Vec<u64> = shares.iter().map(|share| FILL.wrapping_add(*share)).collect();
-            assert_eq!(slice, if way == DOMAIN { fronted(&shares, out) } else { added });
+            assert_eq!(slice, if way == DOMAIN { fronted(&shares, FILL, out) } else { added });
             self.calls += 1;
         }
         // `calls` counts this record too
@@ -158,7 +161,7 @@ impl Replay {
         let (how, index, room, out, number) = (f.next(), f.next(), f.next(), f.next(), f.next());
         let (answer0, answer1, zeros, length) = (f.next(), f.next(), f.next(), f.next());
         let key = f.bytes(length);
-        let (mut scratch, mut slice) = (filled(room), filled(out));
+        let (mut scratch, mut slice) = (filled(SCRATCH, room), filled(FILL, out));
         match (multi, how) {
             (false, AT) => {
                 assert_eq!(face::single_evaluate_at(&key, index), answer(number, answer0));
@@ -190,7 +193,7 @@ impl Replay {
             _ => panic!("no such reading: {how}"),
         }
         assert_eq!(scratch, zeroed(zeros, room));
-        assert_eq!(slice, filled(out));
+        assert_eq!(slice, filled(FILL, out));
     }
 
     fn place(&mut self, f: &mut Fields) {
@@ -198,10 +201,10 @@ impl Replay {
         let (number, evictions, written) = (f.next(), f.next(), f.next());
         let hash_keys = f.array();
         let (points, front) = (f.numbers(points), f.numbers(written));
-        let mut scratch = filled(room);
+        let mut scratch = filled(SCRATCH, room);
         let placed = face::place(domain, buckets, &hash_keys, &points, &mut scratch);
         assert_eq!(placed, answer(number, evictions));
-        assert_eq!(scratch, fronted(&front, room));
+        assert_eq!(scratch, fronted(&front, SCRATCH, room));
     }
 
     fn record(&mut self, kind: u64, f: &mut Fields) {
@@ -237,13 +240,11 @@ impl Replay {
     }
 }
 
-/// The bytes of a list: the oracle's own, or the copy that the replay program of the gate has.
+/// The bytes of a list, where the replay program of the gate has it.
 fn list(name: &str) -> Vec<u8> {
     let top = Path::new(env!("CARGO_MANIFEST_DIR")).join("..");
-    let folders = [top.join("oracle/lists"), top.join("crates").join(name).join("data")];
-    let file = format!("{name}.list");
-    let found = folders.iter().find_map(|folder| std::fs::read(folder.join(&file)).ok());
-    found.unwrap_or_else(|| panic!("{file} is in neither of {folders:?}: nothing to replay"))
+    let file = top.join("crates/oracle_replay/data").join(format!("{name}.list"));
+    std::fs::read(&file).unwrap_or_else(|e| panic!("{}: {e}: nothing to replay", file.display()))
 }
 
 fn replay(name: &str) {

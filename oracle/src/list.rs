@@ -9,7 +9,7 @@ use crate::random::Random;
 
 /// The first line's length, with its line feed.
 pub const HEAD: usize = 256;
-/// The most bytes of a list: what the replaying programs read.
+/// The most bytes of a list: what the replaying program reads.
 pub const LARGEST: usize = 65_536;
 /// What every byte of a key buffer is before a call.
 pub const FILL: u8 = 0xa5;
@@ -78,7 +78,7 @@ fn zeros_in_front(scratch: &[u64]) -> u64 {
     scratch.iter().take_while(|&&cell| cell == 0).count() as u64
 }
 
-/// The largest of each thing that a replaying program must hold, and what the list costs.
+/// The largest of each thing that the replaying program must hold, and what the list costs.
 #[derive(Default, Debug, Clone, Copy)]
 pub struct Extent {
     pub records: u64,

@@ -1,35 +1,23 @@
 -- Laws of what stands in a list, of what is wanted, and of the account: each definition by its tests.
---     part       part-none, part-span
 --     field      field-there, field-none
 --     wanted     getD-inside, wanted-field, wanted-kept
---     account    differing-first, differing-again, valued-same, valued-other
+--     account    differing-first, differing-again, valued-same, valued-other, compared
 --     kind       tallied-same, tallied-other
 -- Assumes nothing.
 use mathlib.Core.Path.{_≡_, refl}
+use mathlib.Core.Logic.{_⊎_, inl, inr}
 use mathlib.Core.Bool.{true, false}
 use mathlib.Core.List.{List, [], _∷_}
-use Prim.Native.Nat.{ℕ, zero, suc, _+_, _*_, _-_, _/_, _≤_, _<_}
+use Prim.Native.Nat.{ℕ, zero, suc, _*_, _/_, _≤_, _<_}
 use native.Mathlib.Nat.{le-of-suc-le-suc}
 use native.Mathlib.Omega.{arith}
-use borrow.Author.Tests.{lt-ltb, le-ltb, le-leb, lt-leb, eq-eqb, ne-eqb}
-use lib.ListN.{length, getD, take, drop}
+use borrow.Author.Tests.{lt-ltb, le-ltb, eq-eqb, ne-eqb}
+use lib.ListN.{length, getD}
 use Rattle.words.specs.Bytes as bytes
 use Rattle.words.specs.Ring.{add, sub}
 use Rattle.replay.specs.declared.Account.{Account}
 use Rattle.replay.specs.declared.Tally.{Tally}
-use Rattle.replay.specs.Lists.{part, field, wantedCell, differing, valued, tallied}
-
--- ---- part
-
-pub part-none : (l : List ℕ) (a n : ℕ) → length l < a + n → [] ≡ part l a n
-unfolding part
-part-none l a n h = rw (lt-leb (a + n) (length l) h)
-
-pub part-span : (l : List ℕ) (a n : ℕ) → a + n ≤ length l → take (a + n - a) (drop a l) ≡ part l a n
-unfolding part
-part-span l a n h =
-    let e : a + n - a ≡ n = omega arith in
-    rw (e, le-leb (a + n) (length l) h)
+use Rattle.replay.specs.Lists.{field, wantedCell, Alike, differing, valued, Compared, tallied}
 
 -- ---- field
 
@@ -75,6 +63,13 @@ valued-same a wanted given e = rw (eq-eqb wanted given e)
 pub valued-other : (a : Account) (wanted given : ℕ) → (wanted ≡ given → ⊥) → differing a ≡ valued a wanted given
 unfolding valued
 valued-other a wanted given e = rw (ne-eqb wanted given e)
+
+-- a search that notes no disagreement has passed every element
+pub compared : (a r : Account) (n i : ℕ) (given : List ℕ) (wanted : ℕ → ℕ) → Alike given wanted i
+    → (r ≡ differing a) ⊎ ((r ≡ a) × (n ≤ length given) × (length given ≤ i)) → Compared a r n given wanted
+compared a r n i given wanted alike (inl e) = inl e
+compared a r n i given wanted alike (inr (e, enough, passed)) =
+    inr (e, enough, λ k inside. alike .1 k (omega (arith, inside, passed)))
 
 -- ---- the account of one kind
 

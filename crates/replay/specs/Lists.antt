@@ -1,8 +1,8 @@
 -- Lists of the oracle's answers (oracle/README.md, "The replay lists"): what stands in one, what is wanted of a lent slice after a
 -- call, and the account of a replay.
---     part l a n             the n bytes of l from a on; none where they are not all there
 --     field f i              field i of a record, eight bytes each; 0 where there is none
 --     wantedCell f n b o i   element i of a slice whose first n are b plus a field, modulo 2 ^ 64, the others o, as they were
+--     Alike l w i            the first i elements of l are those of w
 --     nothing, recorded, called, refused, differing, valued     the account at first, and after each thing
 --     untallied, tallied     the account of one kind at first, and after a record
 --     Compared               what comparing a slice shows: where no disagreement is noted, every element is what is wanted
@@ -10,19 +10,16 @@
 use mathlib.Core.Path.{_≡_}
 use mathlib.Core.Logic.{_⊎_}
 use mathlib.Core.Bool.{Bool, true, false, cond}
-use mathlib.Core.List.{List, []}
-use Prim.Native.Nat.{ℕ, _+_, _*_, _/_, _≤_, _<_}
-use lib.Dec.{leb, ltb, eqb}
-use lib.ListN.{length, getD, take, drop}
+use mathlib.Core.List.{List}
+use Prim.Native.Nat.{ℕ, _*_, _/_, _≤_, _<_}
+use lib.Dec.{ltb, eqb}
+use lib.ListN.{length, getD}
 use Rattle.words.specs.Bytes as bytes
 use Rattle.words.specs.Ring.{add, sub}
 use Rattle.replay.specs.declared.Account.{Account}
 use Rattle.replay.specs.declared.Tally.{Tally}
 
 -- ---- what stands in a list
-
-unfoldable pub part : List ℕ → ℕ → ℕ → List ℕ
-part l a n = cond (leb (a + n) (length l)) (take n (drop a l)) []
 
 unfoldable pub field : List ℕ → ℕ → ℕ
 field f i = cond (ltb i (length f / 8)) (bytes.field 8 f (8 * i)) 0
@@ -31,6 +28,9 @@ field f i = cond (ltb i (length f / 8)) (bytes.field 8 f (8 * i)) 0
 
 unfoldable pub wantedCell : List ℕ → ℕ → ℕ → ℕ → ℕ → ℕ
 wantedCell f n base kept i = cond (ltb i n) (add 64 base (field f i)) kept
+
+abbrev pub Alike : List ℕ → (ℕ → ℕ) → ℕ → Type 0
+Alike given wanted i = (i ≤ length given) × ((k : ℕ) → k < i → getD given k 0 ≡ wanted k)
 
 -- ---- the account
 

@@ -3,11 +3,13 @@
 // What is read and compared is in specs/Lists.antt; of what is printed no contract can speak.
 ghost use mathlib.Core.Path.{_≡_};
 ghost use mathlib.Core.Logic.{_⊎_};
+ghost use mathlib.Core.List.{[]};
 ghost use Prim.Native.Nat.{ℕ, _+_, _≤_, _<_};
 ghost use lib.ListN.{length, getD};
 ghost use Rattle.words.specs.Cells.{tab};
 ghost use Rattle.replay.specs.Lists as spec;
 use words::bytes;
+use words::cells as slices;
 use words::sums;
 
 // What every byte of a key buffer is before a call, every element of an output or a table, and every element of scratch. Scratch
@@ -18,21 +20,47 @@ pub const CELL: u64 = 0xa5a5_a5a5_a5a5_a5a5;
 
 pub const SCRATCH: u64 = 0x5a5a_5a5a_5a5a_5a5a;
 
-// ---- finding and reading
+// ---- what is compared, by number
 
-// The n bytes of a list from `at` on; none where they are not all there.
-pub fn part(list: &[u8], at: usize, n: usize) -> &[u8]
-    ensures { λ r. ⌜ now r ≡ spec.part (now (list .entry)) at n ⌝ }
-{
-    if list.len() < n {
-        return &list[..0];
-    }
-    if list.len() - n < at {
-        return &list[..0];
-    }
-    let end = at + n;
-    &list[at..end]
-}
+pub const NUMBER: u64 = 0;
+
+pub const SCRATCH_LEFT: u64 = 1;
+
+pub const HEIGHT: u64 = 2;
+
+pub const LOW_HALF: u64 = 3;
+
+pub const HIGH_HALF: u64 = 4;
+
+pub const BUCKET: u64 = 5;
+
+pub const IMAGE_LENGTH: u64 = 6;
+
+pub const WORDS_USED: u64 = 7;
+
+pub const EVICTIONS: u64 = 8;
+
+pub const KEY_0: u64 = 9;
+
+pub const KEY_1: u64 = 10;
+
+pub const SHARE: u64 = 11;
+
+pub const TABLE: u64 = 12;
+
+pub const OUTPUT: u64 = 13;
+
+pub const PLACE_NUMBER: u64 = 14;
+
+pub const PLACE_START: u64 = 15;
+
+pub const PLACE_LENGTH: u64 = 16;
+
+pub const RECORD_LENGTH: u64 = 17;
+
+pub const RECORD: u64 = 18;
+
+// ---- finding and reading
 
 // Field i; 0 where there is none.
 pub fn field(fields: &[u8], i: usize) -> u64
@@ -101,12 +129,12 @@ pub fn record_at(list: &[u8], at: usize) -> Record
 
 // ---- what is wanted
 
-// Byte i of a lent slice: a wanted one, or as it was.
-fn wanted_byte(wanted: &[u8], i: usize) -> u8
-    ensures { λ r. ⌜ r ≡ getD (now (wanted .entry)) i 0xa5 ⌝ }
+// Byte i of a slice; what every byte is before a call, where there is none.
+fn byte(bytes: &[u8], i: usize) -> u8
+    ensures { λ r. ⌜ r ≡ getD (now (bytes .entry)) i 0xa5 ⌝ }
 {
-    if i < wanted.len() {
-        return wanted[i];
+    if i < bytes.len() {
+        return bytes[i];
     }
     BYTE
 }
@@ -127,12 +155,11 @@ fn wanted_cell(fields: &[u8], n: usize, base: u64, kept: u64, i: usize) -> u64
 
 // The first byte that is not what is wanted; the length where there is none.
 fn other_byte(given: &[u8], wanted: &[u8]) -> usize
-    ensures within { λ r. ⌜ r ≤ length (now (given .entry)) ⌝ }
-    ensures before { λ r. ⌜ ((k : ℕ) → k < r → getD (now (given .entry)) k 0 ≡ getD (now (wanted .entry)) k 0xa5) ⌝ }
+    ensures { λ r. ⌜ spec.Alike (now (given .entry)) (λ k. getD (now (wanted .entry)) k 0xa5) r ⌝ }
 {
     let mut i: usize = 0;
     while i < given.len() {
-        let w = wanted_byte(wanted, i);
+        let w = byte(wanted, i);
         let g = given[i];
         if g != w {
             return i;
@@ -144,8 +171,7 @@ fn other_byte(given: &[u8], wanted: &[u8]) -> usize
 
 // The first element that is not what is wanted; the length where there is none.
 fn other_cell(given: &[u64], fields: &[u8], n: usize, base: u64, kept: u64) -> usize
-    ensures within { λ r. ⌜ r ≤ length (now (given .entry)) ⌝ }
-    ensures before { λ r. ⌜ ((k : ℕ) → k < r → getD (now (given .entry)) k 0 ≡ spec.wantedCell (now (fields .entry)) n base kept k) ⌝ }
+    ensures { λ r. ⌜ spec.Alike (now (given .entry)) (spec.wantedCell (now (fields .entry)) n base kept) r ⌝ }
 {
     let mut i: usize = 0;
     while i < given.len() {
@@ -160,6 +186,31 @@ fn other_cell(given: &[u64], fields: &[u8], n: usize, base: u64, kept: u64) -> u
 }
 
 // ---- the account
+
+// The name of what is compared.
+fn print_what(what: u64) -> bool {
+    match what {
+        0 => io::write_all(1, b"number"),
+        1 => io::write_all(1, b"scratch"),
+        2 => io::write_all(1, b"height"),
+        3 => io::write_all(1, b"low half"),
+        4 => io::write_all(1, b"high half"),
+        5 => io::write_all(1, b"bucket"),
+        6 => io::write_all(1, b"image length"),
+        7 => io::write_all(1, b"words used"),
+        8 => io::write_all(1, b"evictions"),
+        9 => io::write_all(1, b"key 0"),
+        10 => io::write_all(1, b"key 1"),
+        11 => io::write_all(1, b"share"),
+        12 => io::write_all(1, b"table"),
+        13 => io::write_all(1, b"output"),
+        14 => io::write_all(1, b"number of the place"),
+        15 => io::write_all(1, b"where the part begins"),
+        16 => io::write_all(1, b"length of the part"),
+        17 => io::write_all(1, b"length of the record"),
+        _ => io::write_all(1, b"record"),
+    }
+}
 
 fn counts(records: u64, calls: u64, disagree: u64) {
     io::print_decimal(1, records);
@@ -251,7 +302,7 @@ impl Account {
     pub fn last(self, list: &[u8], r: Record) -> Account
         ensures { λ a. ⌜ (a ≡ self) ⊎ (a ≡ spec.refused self) ⌝ }
     {
-        let f = part(list, r.at, r.length);
+        let f = tools::part(list, r.at, r.length);
         if f.len() != 8 {
             return self.refused();
         }
@@ -268,7 +319,7 @@ impl Account {
     }
 
     // The first disagreement, in a line.
-    fn tell(self, what: &[u8], at: u64, wanted: u64, given: u64) {
+    fn tell(self, what: u64, at: u64, wanted: u64, given: u64) {
         if self.disagree != 0 {
             return;
         }
@@ -276,7 +327,7 @@ impl Account {
         io::write_all(1, b", call ");
         io::print_decimal(1, self.calls);
         io::write_all(1, b": ");
-        io::write_all(1, what);
+        print_what(what);
         io::write_all(1, b", element ");
         io::print_decimal(1, at);
         io::write_all(1, b": wanted ");
@@ -287,7 +338,7 @@ impl Account {
     }
 
     // The call at hand disagrees.
-    fn differs(self, what: &[u8], at: u64, wanted: u64, given: u64) -> Account
+    fn differs(self, what: u64, at: u64, wanted: u64, given: u64) -> Account
         ensures { λ r. ⌜ r ≡ spec.differing self ⌝ }
     {
         if self.agrees {
@@ -305,7 +356,7 @@ impl Account {
     }
 
     // A value of the call at hand.
-    pub fn value(self, what: &[u8], wanted: u64, given: u64) -> Account
+    pub fn value(self, what: u64, wanted: u64, given: u64) -> Account
         ensures { λ r. ⌜ r ≡ spec.valued self wanted given ⌝ }
     {
         if wanted == given {
@@ -314,30 +365,48 @@ impl Account {
         self.differs(what, 0, wanted, given)
     }
 
+    // A call is next; this is the number that it answers.
+    pub fn answered(self, wanted: u64, given: u64) -> Account
+        ensures { λ r. ⌜ r ≡ spec.valued (spec.called self) wanted given ⌝ }
+    {
+        self.next_call().value(NUMBER, wanted, given)
+    }
+
+    // A slice of that size after the call at hand, of which the first n are wanted: the search ended at i.
+    fn searched(
+        self,
+        what: u64,
+        size: usize,
+        n: usize,
+        i: usize,
+        wanted: u64,
+        given: u64,
+    ) -> Account
+        ensures { λ r. ⌜ (r ≡ spec.differing self) ⊎ ((r ≡ self) × (n ≤ size) × (size ≤ i)) ⌝ }
+    {
+        if i < size {
+            return self.differs(what, i as u64, wanted, given);
+        }
+        if size < n {
+            return self.differs(what, size as u64, n as u64, size as u64);
+        }
+        self
+    }
+
     // A slice of bytes after the call at hand: those that are wanted, and behind them as it was.
-    pub fn bytes(self, what: &[u8], wanted: &[u8], given: &[u8]) -> Account
+    pub fn bytes(self, what: u64, wanted: &[u8], given: &[u8]) -> Account
         ensures { λ r. ⌜ spec.Compared self r (length (now (wanted .entry))) (now (given .entry)) (λ k. getD (now (wanted .entry)) k 0xa5) ⌝ }
     {
         let i = other_byte(given, wanted);
-        if i < given.len() {
-            let g = wide(given[i]);
-            return self.differs(what, i as u64, wide(wanted_byte(wanted, i)), g);
-        }
-        if given.len() < wanted.len() {
-            return self.differs(
-                what,
-                given.len() as u64,
-                wanted.len() as u64,
-                given.len() as u64,
-            );
-        }
-        self
+        let w = wide(byte(wanted, i));
+        let g = wide(byte(given, i));
+        self.searched(what, given.len(), wanted.len(), i, w, g)
     }
 
     // A slice of elements after the call at hand: base plus the first n fields, and behind them as it was.
     fn elements(
         self,
-        what: &[u8],
+        what: u64,
         fields: &[u8],
         n: usize,
         base: u64,
@@ -347,18 +416,13 @@ impl Account {
         ensures { λ r. ⌜ spec.Compared self r n (now (given .entry)) (spec.wantedCell (now (fields .entry)) n base kept) ⌝ }
     {
         let i = other_cell(given, fields, n, base, kept);
-        if i < given.len() {
-            let g = given[i];
-            return self.differs(what, i as u64, wanted_cell(fields, n, base, kept, i), g);
-        }
-        if given.len() < n {
-            return self.differs(what, given.len() as u64, n as u64, given.len() as u64);
-        }
-        self
+        let wanted = wanted_cell(fields, n, base, kept, i);
+        let g = slices::element(given, i);
+        self.searched(what, given.len(), n, i, wanted, g)
     }
 
     // An output or a table after the call at hand: base plus the first n fields, and behind them as it was.
-    pub fn cells(self, what: &[u8], fields: &[u8], n: usize, base: u64, given: &[u64]) -> Account
+    pub fn cells(self, what: u64, fields: &[u8], n: usize, base: u64, given: &[u64]) -> Account
         ensures { λ r. ⌜ spec.Compared self r n (now (given .entry)) (spec.wantedCell (now (fields .entry)) n base 0xa5a5a5a5a5a5a5a5) ⌝ }
     {
         self.elements(what, fields, n, base, CELL, given)
@@ -368,7 +432,14 @@ impl Account {
     pub fn scratch(self, fields: &[u8], n: usize, given: &[u64]) -> Account
         ensures { λ r. ⌜ spec.Compared self r n (now (given .entry)) (spec.wantedCell (now (fields .entry)) n 0 0x5a5a5a5a5a5a5a5a) ⌝ }
     {
-        self.elements(b"scratch", fields, n, 0, SCRATCH, given)
+        self.elements(SCRATCH_LEFT, fields, n, 0, SCRATCH, given)
+    }
+
+    // Scratch after the call at hand: the first n elements are zero, and behind them as it was.
+    pub fn zeroed(self, n: usize, given: &[u64]) -> Account
+        ensures { λ r. ⌜ spec.Compared self r n (now (given .entry)) (spec.wantedCell [] n 0 0x5a5a5a5a5a5a5a5a) ⌝ }
+    {
+        self.scratch(b"", n, given)
     }
 
     // The last line, where the list could be read to its end; the answer is how many calls disagree.

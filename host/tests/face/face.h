@@ -92,5 +92,6 @@ void test_place(void);
 void test_multi(void);
 void test_multi_refusals(void);
 void test_threads(void);
+void test_stack(void);
 
 #endif

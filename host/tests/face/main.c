@@ -1,3 +1,4 @@
+/* Runs every test of the C face, and counts what passed and failed. What the tests are stands in face.h. */
 #include "face.h"
 
 #include <stdio.h>
@@ -13,6 +14,7 @@ int main(void)
     test_multi();
     test_multi_refusals();
     test_threads();
+    test_stack();
     printf("face: %lu passed, %lu failed\n", passed, failed);
     return failed != 0;
 }

@@ -49,7 +49,7 @@ fn write(kind: &str, seed: u64, date: &str, file: &str) {
         extent.records, extent.calls
     );
     let bytes = list.file(&head);
-    assert!(bytes.len() <= list::LARGEST, "the replaying programs hold {} bytes", list::LARGEST);
+    assert!(bytes.len() <= list::LARGEST, "the replaying program holds {} bytes", list::LARGEST);
     std::fs::write(file, &bytes).unwrap_or_else(|e| panic!("{file}: {e}"));
     println!("{head}\n{} bytes, {extent:#?}", bytes.len());
 }

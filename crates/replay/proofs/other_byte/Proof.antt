@@ -1,28 +1,27 @@
 -- `replay::other_byte` meets its contract. The invariant: the bytes below i are what is wanted. The measure is what is left.
 -- Assumes nothing.
-use mathlib.Core.Path.{_≡_, _∙_}
-use Prim.Native.Nat.{ℕ, _-_, _≤_, _<_}
+use mathlib.Core.Path.{_∙_}
+use Prim.Native.Nat.{_-_}
 use borrow.Author.Count.{below-more}
 use borrow.Author.Needs.{needs}
 use lib.ListN.{length, getD}
+use Rattle.replay.specs.Lists.{Alike}
 use Rattle.replay.proofs.other_byte.Statement.{statement}
 use Rattle.replay.proofs.other_byte.Tie as tie
 
 abbrev Inv-loop : tie.InvT-loop
-Inv-loop given wanted i₀ i = (i ≤ length given) × ((k : ℕ) → k < i → getD given k 0 ≡ getD wanted k 0xa5)
+Inv-loop given wanted i₀ i = Alike given (λ k. getD wanted k 0xa5) i
 
 abbrev μ-loop : tie.MeasureT-loop
 μ-loop given wanted i₀ i = length given - i
 
 returns : tie.Need-returns Inv-loop μ-loop
-returns c = (search needs, c .before .before .before .before .loop .inv .1)
+returns c = c .before .before .before .before .loop .inv
 
 loop-again : tie.Need-loop-again Inv-loop μ-loop
 loop-again c =
-    (search needs, below-more _ _ (c .before .before .before .before .loop .inv .1) (c .if1 .left ∙ c .before .before .wanted-byte .ensures))
-
-returns-2 : tie.Need-returns-2 Inv-loop μ-loop
-returns-2 c = (search needs, c .before .loop .inv .1)
+    let inv = c .before .before .before .before .loop .inv in
+    (search needs, below-more _ _ (inv .1) (c .if1 .left ∙ c .before .before .byte .ensures))
 
 pub other-byte-spec : {M : Type 1} → statement M
 other-byte-spec =
@@ -37,4 +36,4 @@ other-byte-spec =
     (λ c. search needs)
     (λ c. search needs)
     loop-again
-    returns-2)
+    (λ c. c .before .loop .inv))

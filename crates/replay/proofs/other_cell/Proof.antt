@@ -1,29 +1,27 @@
 -- `replay::other_cell` meets its contract. The invariant: the elements below i are what is wanted. The measure is what is left.
 -- Assumes nothing.
-use mathlib.Core.Path.{_≡_, _∙_}
-use Prim.Native.Nat.{ℕ, _-_, _≤_, _<_}
+use mathlib.Core.Path.{_∙_}
+use Prim.Native.Nat.{_-_}
 use borrow.Author.Count.{below-more}
 use borrow.Author.Needs.{needs}
-use lib.ListN.{length, getD}
-use Rattle.replay.specs.Lists.{wantedCell}
+use lib.ListN.{length}
+use Rattle.replay.specs.Lists.{wantedCell, Alike}
 use Rattle.replay.proofs.other_cell.Statement.{statement}
 use Rattle.replay.proofs.other_cell.Tie as tie
 
 abbrev Inv-loop : tie.InvT-loop
-Inv-loop given fields n base kept i₀ i = (i ≤ length given) × ((k : ℕ) → k < i → getD given k 0 ≡ wantedCell fields n base kept k)
+Inv-loop given fields n base kept i₀ i = Alike given (wantedCell fields n base kept) i
 
 abbrev μ-loop : tie.MeasureT-loop
 μ-loop given fields n base kept i₀ i = length given - i
 
 returns : tie.Need-returns Inv-loop μ-loop
-returns c = (search needs, c .before .before .before .before .loop .inv .1)
+returns c = c .before .before .before .before .loop .inv
 
 loop-again : tie.Need-loop-again Inv-loop μ-loop
 loop-again c =
-    (search needs, below-more _ _ (c .before .before .before .before .loop .inv .1) (c .if1 .left ∙ c .before .before .wanted-cell .ensures))
-
-returns-2 : tie.Need-returns-2 Inv-loop μ-loop
-returns-2 c = (search needs, c .before .loop .inv .1)
+    let inv = c .before .before .before .before .loop .inv in
+    (search needs, below-more _ _ (inv .1) (c .if1 .left ∙ c .before .before .wanted-cell .ensures))
 
 pub other-cell-spec : {M : Type 1} → statement M
 other-cell-spec =
@@ -39,4 +37,4 @@ other-cell-spec =
     (λ c. search needs)
     (λ c. search needs)
     loop-again
-    returns-2)
+    (λ c. c .before .loop .inv))

@@ -1,5 +1,6 @@
 //! `morgnet bench`: how long each call takes, how it grows, what memory it takes, how often placement
-//! gives up; and the Rust beside it where the oracle is built. It prints docs/BENCH.md.
+//! gives up; and the Rust beside it where the oracle is built. It prints these tables of docs/BENCH.md;
+//! the blocks that were counted and the check time there were made by hand.
 
 mod beside;
 mod calls;

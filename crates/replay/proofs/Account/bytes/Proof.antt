@@ -1,33 +1,21 @@
--- `replay::Account::bytes` meets its contract: where no disagreement is noted, the search has passed every index. Assumes nothing.
-use mathlib.Core.Path.{refl}
-use mathlib.Core.Logic.{inl, inr}
-use native.Mathlib.Omega.{arith}
+-- `replay::Account::bytes` meets its contract. Assumes nothing.
 use borrow.Author.Needs.{needs}
+use denote.Ref.{now}
+use Rattle.replay.proofs.ListLaws.{compared}
 use Rattle.replay.proofs.Account.bytes.Statement.{statement}
 use Rattle.replay.proofs.Account.bytes.Tie as tie
 
 returns : tie.Need-returns
-returns c = inl (c .differs .ensures)
-
-returns-2 : tie.Need-returns-2
-returns-2 c = inl (c .differs2 .ensures)
-
-returns-3 : tie.Need-returns-3
-returns-3 c =
-    let found = c .before .before .other-byte .ensures in
-    inr (refl, omega arith, λ k h. found .1 k (omega (arith, found .0)))
+returns c =
+    let a = c .before .before .before .before .before .before .before .before .args in
+    compared _ _ _ _ (now (a .given)) _ (c .before .before .before .before .before .other-byte .ensures) (c .searched .ensures)
 
 pub bytes-spec : {M : Type 1} → statement M
-bytes-spec =
-    tie.close
-    (tie.spec
-    (λ c κs. search needs)
-    (λ c. search needs)
+bytes-spec = tie.close (tie.spec
     (λ c κs. search needs)
     (λ c κs. search needs)
     (λ c κs. search needs)
     (λ c κs. search needs)
-    returns
     (λ c κs. search needs)
-    returns-2
-    returns-3)
+    (λ c κs. search needs)
+    returns)

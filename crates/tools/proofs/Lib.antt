@@ -1,0 +1,2 @@
+-- What belongs to no one function: laws on plain values.
+pub mod ToolLaws
