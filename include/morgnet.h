@@ -46,6 +46,8 @@
  *   single image    party, 0 or 1  the number 8        number of cells
  *   multi image     party, 0 or 1  number of buckets   number of cells   number of points   the number 72
  *
+ * A multi image has a RECORD for each bucket that has entries: a small key over them (morgnet_multi_record).
+ *
  * What is secret. Random words are secret, uniform, and used once: whoever knows them, or both keys, knows the posting.
  * Hash keys have to be fresh, not secret; they stand in both images. One key alone is meant to tell nothing of a
  * posting but the numbers in its front; that rests on the scheme and on AES. TIME DEPENDS ON SECRETS: in this release
@@ -188,7 +190,7 @@ uint64_t morgnet_single_add_to(const uint8_t *key, size_t key_len,
  *   domain     in     number of cells, D: 1 to 2^32 - 1
  *   buckets    in     number of buckets, B: 1 to 65,535, at least the number of points. The more, the seldomer
  *                     MORGNET_PLACE, and the longer the image. 9 buckets for 5 points and 48 more is a good choice:
- *                     measured, MORGNET_PLACE then came once in 120,000 draws of hash keys for 2 points, and in none
+ *                     measured, MORGNET_PLACE then came once in 114,000 draws of hash keys for 2 points, and in none
  *                     of those tried for 10 to 58,000 (docs/BENCH.md). More than 60,000 points do not fit into 65,535
  *                     buckets: split the posting.
  *   hash_keys  in     three random keys of 16 bytes
