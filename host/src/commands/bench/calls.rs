@@ -14,9 +14,8 @@ const GROWTH: &str = "
 
 The library alone. A tree over S cells has the least height h with 2^h at least S: making a single key and reading one cell of it
 grow with h, everything else with the number of cells. A cell of a single key costs 1.5 tree hashes. A cell of a multi key costs 3
-bucket hashes where the buckets are counted (making, one cell), and 6 and 4.5 tree hashes where all cells are read. Blocks counted
-by callgrind: 34 for one cell of 2^34; 24,607 to make a pair over 2^14 cells and read the whole domain of one; and for a multi key
-over 2^14 cells 76,156 to make a pair, 49,170 for one cell, 173,590 for the whole domain.
+bucket hashes where the buckets are counted (making, one cell), and 6 and 4.5 tree hashes where all cells are read; a tree over
+an odd number of cells takes one tree hash more.
 
 ";
 
