@@ -12,7 +12,7 @@ use bucket_hash::Hashes;
 use words::cells as slices;
 
 // What making answers: 0, the length of either image, the random words used and all evictions; or a refusal's number and zeros.
-#[derive(Drop)]
+#[derive(Clone, Copy)]
 pub struct Generated {
     pub number: u64,
     pub length: u64,
@@ -21,7 +21,7 @@ pub struct Generated {
 }
 
 // What reading one cell answers: 0 and the share, or a refusal's number and 0.
-#[derive(Drop)]
+#[derive(Clone, Copy)]
 pub struct Share {
     pub number: u64,
     pub share: u64,

@@ -13,7 +13,7 @@ use words::{bytes, limits, refusals};
 const DIRECTORY: u64 = 72;
 
 // Where a bucket's record stands: 0, where it begins and how many bytes it has; zeros where there is none.
-#[derive(Drop)]
+#[derive(Clone, Copy)]
 pub struct RecordPlace {
     pub number: u64,
     pub start: u64,

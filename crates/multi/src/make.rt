@@ -23,7 +23,7 @@ use words::cells::{element, word_no};
 use words::{Word, limits, refusals};
 
 // The random words that all records use, and the bytes of either image.
-#[derive(Drop)]
+#[derive(Clone, Copy)]
 struct Totals {
     used: u64,
     bytes: u64,

@@ -6,7 +6,7 @@ use tools::{elements, fill, fold_bytes, hex, keys, lent_bytes, lent_cells, numbe
 // ---- one call
 
 // A list of at most three numbers.
-#[derive(Drop)]
+#[derive(Clone, Copy)]
 struct Few {
     n: usize,
     list: [u64; 3],
@@ -49,7 +49,7 @@ fn some(n: usize) -> Few {
 }
 
 // What is given; the hash keys are those of a seed, zeros of 0.
-#[derive(Drop)]
+#[derive(Clone, Copy)]
 struct Posted {
     domain: u64,
     buckets: u64,

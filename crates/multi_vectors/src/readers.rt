@@ -186,7 +186,7 @@ fn table_order() {
 // ---- 152 bytes that claim a huge domain: each call is refused before a cell is hashed
 
 // How many elements are 0.
-#[derive(Drop)]
+#[derive(Clone, Copy)]
 struct Left {
     scratch: u64,
     table: u64,

@@ -34,7 +34,7 @@ fn one_record(a: Account, kind: u64, f: &[u8], pair: &[u8]) -> Account {
 // ---- the walk through a list
 
 // Where it has come to, and the last records that made a pair, of single keys and of multi keys.
-#[derive(Drop)]
+#[derive(Clone, Copy)]
 struct Run {
     account: Account,
     kinds: [Tally; 16],

@@ -15,7 +15,7 @@ const WORDS: u64 = 64;
 const SCRATCH: u64 = 64;
 
 // How much of each is lent to the maker.
-#[derive(Drop)]
+#[derive(Clone, Copy)]
 struct Lent {
     points: u64,
     values: u64,

@@ -13,7 +13,7 @@ const CELL_SCRATCH: usize = 32;
 const OUT: usize = 128;
 
 // What is lent to a call, and what is wanted of it.
-#[derive(Drop)]
+#[derive(Clone, Copy)]
 struct Lent {
     number: u64,
     scratch: u64,

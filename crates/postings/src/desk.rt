@@ -6,7 +6,7 @@ use words::{cells, sums};
 // ---- the postings
 
 // So many cells and buckets, no buckets for a single key; so many points and values stand below from `first` on.
-#[derive(Drop)]
+#[derive(Clone, Copy)]
 pub(crate) struct Posting {
     pub(crate) domain: u64,
     pub(crate) buckets: u64,

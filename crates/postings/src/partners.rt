@@ -6,7 +6,7 @@ use words::{cells, sums};
 // ---- the steps
 
 // An image, how many of its bytes, whether as a multi or as a single image, and with how much scratch.
-#[derive(Drop)]
+#[derive(Clone, Copy)]
 struct Step {
     image: u64,
     bytes: u64,

@@ -79,7 +79,7 @@ pub fn fill(cells: &mut [u64], fields: &[u8])
 }
 
 // A record: its kind, and where its fields are.
-#[derive(Drop)]
+#[derive(Clone, Copy)]
 pub struct Record {
     pub whole: bool,
     pub kind: u64,
@@ -219,7 +219,7 @@ fn counts(records: u64, calls: u64, disagree: u64) {
 
 // What a replay has come to: the records and calls so far, the calls that disagree, the kind of the record at hand, whether
 // the call at hand agrees so far, and whether the list was found malformed.
-#[derive(Drop)]
+#[derive(Clone, Copy)]
 pub struct Account {
     pub records: u64,
     pub calls: u64,
@@ -454,7 +454,7 @@ impl Account {
 // ---- the account of one kind
 
 // How many records of one kind were replayed, how many calls they made, and how many of these disagree.
-#[derive(Drop)]
+#[derive(Clone, Copy)]
 pub struct Tally {
     pub records: u64,
     pub calls: u64,

@@ -11,7 +11,7 @@ use cipher::TreeHash;
 use words::{Word, sums};
 
 // The last level of a key: both parts of its correction, and the last word.
-#[derive(Drop)]
+#[derive(Clone, Copy)]
 pub(crate) struct End {
     pub hcw: Word,
     pub lcw0: bool,
