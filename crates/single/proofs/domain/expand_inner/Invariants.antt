@@ -1,0 +1,16 @@
+-- `single::domain::expand_inner` meets its contract. The invariant is `Layered`: layer j stands in the slice. The measure is
+-- the number of layers that are left. Assumes nothing.
+use Prim.Native.Nat.{◌+◌, ◌-◌, ◌/◌, ◌^◌, ◌≤◌}
+use lib.Pow.{shr_le}
+use native.Mathlib.Omega.{arith}
+use borrow.Author.Rules.{rules}
+use Rattle.cipher.specs.TreeHash.{hash_by}
+use Rattle.single.proofs.KeyLaws.{sound-few}
+use Rattle.single.proofs.Layers.{Layered, layered_none, layered_more, layered_all, top_fits}
+use Rattle.single.proofs.domain.expand_inner.Given as goal
+
+abbrev pub invariant-loop-j : goal.invariant-loop-j
+invariant-loop-j l = Layered (hash_by l.h) l.k.lows l.k.highs l.k.seed l.last l.n l.initial.nodes l.j l.nodes
+
+abbrev pub decreases-loop-j : goal.decreases-loop-j
+decreases-loop-j l = l.n - l.j

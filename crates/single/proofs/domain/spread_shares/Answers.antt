@@ -1,0 +1,21 @@
+-- `single::domain::spread_shares` meets its contract: one cell is its last word; else all layers but the last, and the last.
+-- Assumes nothing.
+use Prim.Native.Nat.{◌<◌}
+use native.Mathlib.Omega.{arith}
+use Rattle.cipher.specs.TreeHash.{hash_by}
+use Rattle.single.specs.Keys.{record_of}
+use Rattle.single.proofs.Layers.{spread-one, spread-all}
+use borrow.Author.Rules.{rules}
+use Rattle.single.proofs.domain.spread_shares.Goals as goal
+
+pub returns-then-k-eq1 : goal.returns-then-k-eq1
+returns-then-k-eq1 c =
+    let a = c.args in
+    spread-one (hash_by a.h) 64 a.party (record_of a.k) a.nodes.now c.if-k-eq1.true c.set_node.ensures
+
+pub returns : goal.returns
+returns c =
+    let a = c.args in
+    let many : 1 < a.k.size = omega (arith, c.requires.sound.some, c.if-k-eq1.false) in
+    spread-all (hash_by a.h) 64 a.party (record_of a.k) a.nodes.now many c.end_in.ensures c.expand_inner.ensures
+    c.expand_last.ensures
