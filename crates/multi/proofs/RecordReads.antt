@@ -16,7 +16,7 @@ use borrow.Rule.Slice.PartMut.{put_mid, mid_of}
 use Rattle.words.specs.Limits.{largest_single}
 use Rattle.words.specs.declared.Word.{Word}
 use Rattle.words.specs.Bytes.{put}
-use Rattle.words.proofs.ByteLaws.{put_mid, put_whole}
+use Rattle.words.proofs.ByteLaws.{put_mid_lem, put_whole}
 use Rattle.words.proofs.TestLaws.{first-none, first_miss, succeeded}
 use Rattle.single.specs.Rules.{share}
 use Rattle.single.specs.Nodes.{nodes_from, spread}
@@ -69,7 +69,7 @@ part-spread H p l c from size n w m ok same fits e =
     let long : length (mid_of from k w) ≡ k = length-take-le k (drop from w) (simp length-drop (omega arith)) in
     let shares = length-shares H p l c in
     ap (put_mid from k w) (spread_there H p l c n (mid_of from k w) m ok (omega arith) e)
-    ∙ put_mid w from k 0 (bucket_shares H p l c) (omega arith) (omega arith)
+    ∙ put_mid_lem w from k 0 (bucket_shares H p l c) (omega arith) (omega arith)
     ∙ ap (λ (a : ℕ). put w a (bucket_shares H p l c)) (add-zero from)
 
 -- no entry, no shares

@@ -1,0 +1,56 @@
+-- `multi::make::make_in` meets its contract: laying out gives up, or the images are written from what it laid out.
+-- Assumes nothing.
+use mathlib.Core.Path.{◌≡◌, ap, ◌∙◌}
+use mathlib.Core.List.{List, []}
+use Prim.Native.Nat.{ℕ, ◌<◌}
+use native.Mathlib.Omega.{arith}
+use borrow.Author.Rules.{rules}
+use lib.ListN.{length}
+use Rattle.cipher.specs.TreeHash.{tree_hash}
+use Rattle.bucket_hash.specs.BucketHash.{bucket_of, bucket_by}
+use Rattle.bucket_hash.proofs.HashesKeyed.{hashes_keyed}
+use Rattle.bucket_hash.proofs.BucketsBelow.{bucket_of_lt}
+use Rattle.placement.specs.Calls.{placed, laying_out}
+use Rattle.multi.specs.declared.calls.Generated.{Generated}
+use Rattle.multi.specs.Calls.{Given, given, functions}
+use Rattle.multi.specs.Making.{writing}
+use Rattle.multi.proofs.GivenLaws.{Early, early}
+use Rattle.multi.proofs.GenerateLaws.{lay_gave_up, lay_small, lay_inside, lay_given}
+use Rattle.multi.proofs.make.make_in.Goals as goal
+
+pub returns-then-placed-ne0 : goal.returns-then-placed-ne0
+returns-then-placed-ne0 c =
+    let facts : Early (what c) (length c.args.scratch.now) = early (what c) _ c.requires in
+    let laid : placed c.lay_out-placed.result c.lay_out-placed.new.scratch ≡ laying_out (functions bucket_of (what c)) (what c).domain (what c).buckets (what c).points c.args.scratch.now = c.lay_out-placed.ensures
+    ∙ ap (λ (f : ℕ → ℕ → ℕ → ℕ). laying_out (f (what c).buckets) (what c).domain (what c).buckets (what c).points c.args.scratch.now)
+    (ap bucket_by c.new.ensures ∙ hashes_keyed (what c).keys) in
+    let k0 = c.args.key0.now in
+    let k1 = c.args.key1.now in
+    ap (λ (r : Generated). writing r k0 k1) c.refused.ensures
+    ∙ lay_gave_up tree_hash bucket_of (what c) _ facts _ _ laid k0 k1 c.if-placed-ne0.true
+
+pub write_work-requires : goal.write_work-requires
+write_work-requires c =
+    let facts : Early (what c) (length c.args.scratch.now) = early (what c) _ c.requires in
+    let laid : placed c.lay_out-placed.result c.lay_out-placed.new.scratch ≡ laying_out (functions bucket_of (what c)) (what c).domain (what c).buckets (what c).points c.args.scratch.now = c.lay_out-placed.ensures
+    ∙ ap (λ (f : ℕ → ℕ → ℕ → ℕ). laying_out (f (what c).buckets) (what c).domain (what c).buckets (what c).points c.args.scratch.now)
+    (ap bucket_by c.new.ensures ∙ hashes_keyed (what c).keys) in
+    let low : (k x : ℕ) → k < 3 → functions bucket_of (what c) k x < (what c).buckets = λ k x below. bucket_of_lt (what c).keys (what c).buckets k x facts.some_buckets in
+    let none = c.if-placed-ne0.false in
+    let same : length c.lay_out-placed.new.scratch ≡ length c.args.scratch.now = c.lay_out-placed.auto.scratch in record {
+      b_le_most_buckets = (facts.few_buckets, omega (arith, facts.few_points, facts.few_buckets), omega (arith, facts.room));
+      by_index = (
+        lay_small tree_hash bucket_of (what c) _ facts _ c.lay_out-placed.new.scratch laid [] [] low none,
+        lay_inside tree_hash bucket_of (what c) _ facts _ c.lay_out-placed.new.scratch laid [] [] low none,
+      );
+    }
+
+pub returns : goal.returns
+returns c =
+    let facts : Early (what c) (length c.args.scratch.now) = early (what c) _ c.requires in
+    let laid : placed c.lay_out-placed.result c.lay_out-placed.new.scratch ≡ laying_out (functions bucket_of (what c)) (what c).domain (what c).buckets (what c).points c.args.scratch.now = c.lay_out-placed.ensures
+    ∙ ap (λ (f : ℕ → ℕ → ℕ → ℕ). laying_out (f (what c).buckets) (what c).domain (what c).buckets (what c).points c.args.scratch.now)
+    (ap bucket_by c.new.ensures ∙ hashes_keyed (what c).keys) in
+    let low : (k x : ℕ) → k < 3 → functions bucket_of (what c) k x < (what c).buckets = λ k x below. bucket_of_lt (what c).keys (what c).buckets k x facts.some_buckets in
+    let none = c.if-placed-ne0.false in
+    c.write_work.ensures ∙ lay_given tree_hash bucket_of (what c) _ facts _ c.lay_out-placed.new.scratch laid _ _ low none

@@ -1,0 +1,19 @@
+-- `multi::read::share_over` meets its contract: a sum modulo 2 ^ 64 of a sum modulo 2 ^ 64. Assumes nothing.
+use native.Mathlib.Nat.{add-mod-mod}
+use borrow.Author.Rules.{rules}
+use Rattle.words.specs.Ring.{add}
+use Rattle.placement.specs.Shares.{each_once}
+use Rattle.multi.specs.Rules.{share_over}
+use Rattle.multi.proofs.read.share_over.Goals as goal
+
+pub returns : goal.returns
+unfolding share_over each_once add
+returns c =
+    rw (
+      c.plus-2.ensures,
+      c.plus.ensures,
+      c.unless_counted-third.ensures,
+      c.unless_counted.ensures,
+      c.unless_counted-second.ensures,
+      add-mod-mod,
+    )
