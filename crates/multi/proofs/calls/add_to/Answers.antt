@@ -30,4 +30,4 @@ pub returns : goal.returns
 unfolding add_to add_to_number share_in cells_filled
 returns c =
     let passed : first (add_to_early c.args.key.now (length c.args.table.now) (length c.args.scratch.now)) ≡ 0 = sym c.add_to_number-number.ensures ∙ c.if-number-ne0.false in
-    image_passed swept bucket_of c.args.key.now (add_to_early c.args.key.now (length c.args.table.now) (length c.args.scratch.now)) _ _ (added 64 (share_in tree_hash bucket_of c.args.key.now) c.args.table.now) _ tt passed _ _ _ c.sweep.ensures
+    image_passed swept bucket_of c.args.key.now (add_to_early c.args.key.now (length c.args.table.now) (length c.args.scratch.now)) _ _ (added 64 (share_in tree_hash bucket_of c.args.key.now) c.args.table.now) _ tt passed _ _ _ (c.sweep.ensures.answer, (c.sweep.ensures.scratch, c.sweep.ensures.cells))

@@ -34,4 +34,4 @@ pub returns : goal.returns
 unfolding evaluate_domain evaluate_domain_number share_in cells_filled
 returns c =
     let passed : first (evaluate_domain_early c.args.key.now (length c.args.scratch.now) (length c.args.out.now)) ≡ 0 = sym c.evaluate_domain_number-number.ensures ∙ c.if-number-ne0.false in
-    image_passed swept bucket_of c.args.key.now (evaluate_domain_early c.args.key.now (length c.args.scratch.now) (length c.args.out.now)) _ _ (put c.args.out.now 0 (tab (share_in tree_hash bucket_of c.args.key.now) (domain_in c.args.key.now))) _ tt passed _ _ _ c.sweep.ensures
+    image_passed swept bucket_of c.args.key.now (evaluate_domain_early c.args.key.now (length c.args.scratch.now) (length c.args.out.now)) _ _ (put c.args.out.now 0 (tab (share_in tree_hash bucket_of c.args.key.now) (domain_in c.args.key.now))) _ tt passed _ _ _ (c.sweep.ensures.answer, (c.sweep.ensures.scratch, c.sweep.ensures.cells))

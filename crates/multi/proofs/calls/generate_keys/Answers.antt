@@ -25,16 +25,18 @@ returns-then-number-ne0 c =
 
 pub make_in-answer-requires : goal.make_in-answer-requires
 make_in-answer-requires c =
-    let passed : first (generate_early (what c) (length c.args.scratch.now)) ≡ 0 = sym c.generate_number-number.ensures ∙ c.if-number-ne0.false in
-    let facts : Early (what c) (length c.args.scratch.now) = early (what c) _ passed in
-    let part-long : length (take (generate_room (what c)) c.args.scratch.now) ≡ generate_room (what c) = length-take-le _ _ facts.room in
+    let what : Given = given c.args.domain c.args.buckets c.args.keys c.args.points.now c.args.values.now c.args.words.now in
+    let passed : first (generate_early what (length c.args.scratch.now)) ≡ 0 = sym c.generate_number-number.ensures ∙ c.if-number-ne0.false in
+    let facts : Early what (length c.args.scratch.now) = early what _ passed in
+    let part-long : length (take (generate_room what) c.args.scratch.now) ≡ generate_room what = length-take-le _ _ facts.room in
     ap (λ (n : ℕ). first (generate_early (let a = c.args in given a.domain a.buckets a.keys a.points.now a.values.now a.words.now) n)) part-long ∙ early_part (let a = c.args in given a.domain a.buckets a.keys a.points.now a.values.now a.words.now) _ passed
 
 pub returns : goal.returns
 returns c =
-    let passed : first (generate_early (what c) (length c.args.scratch.now)) ≡ 0 = sym c.generate_number-number.ensures ∙ c.if-number-ne0.false in
-    let facts : Early (what c) (length c.args.scratch.now) = early (what c) _ passed in
-    let part-long : length (take (generate_room (what c)) c.args.scratch.now) ≡ generate_room (what c) = length-take-le _ _ facts.room in
+    let what : Given = given c.args.domain c.args.buckets c.args.keys c.args.points.now c.args.values.now c.args.words.now in
+    let passed : first (generate_early what (length c.args.scratch.now)) ≡ 0 = sym c.generate_number-number.ensures ∙ c.if-number-ne0.false in
+    let facts : Early what (length c.args.scratch.now) = early what _ passed in
+    let part-long : length (take (generate_room what) c.args.scratch.now) ≡ generate_room what = length-take-le _ _ facts.room in
     ap (λ (l : List ℕ). generating c.make_in-answer.result l c.make_in-answer.new.key0
     c.make_in-answer.new.key1)
     (c.zero_first.ensures
@@ -44,25 +46,29 @@ returns c =
 
 pub overflow_mul-need : goal.overflow_mul-need
 overflow_mul-need c =
-    let passed : first (generate_early (what c) (length c.args.scratch.now)) ≡ 0 = sym c.generate_number-number.ensures ∙ c.if-number-ne0.false in
-    let facts : Early (what c) (length c.args.scratch.now) = early (what c) _ passed in
+    let what : Given = given c.args.domain c.args.buckets c.args.keys c.args.points.now c.args.values.now c.args.words.now in
+    let passed : first (generate_early what (length c.args.scratch.now)) ≡ 0 = sym c.generate_number-number.ensures ∙ c.if-number-ne0.false in
+    let facts : Early what (length c.args.scratch.now) = early what _ passed in
     omega (arith, facts.few_buckets)
 
 pub overflow_add-need : goal.overflow_add-need
 overflow_add-need c =
-    let passed : first (generate_early (what c) (length c.args.scratch.now)) ≡ 0 = sym c.generate_number-number.ensures ∙ c.if-number-ne0.false in
-    let facts : Early (what c) (length c.args.scratch.now) = early (what c) _ passed in
+    let what : Given = given c.args.domain c.args.buckets c.args.keys c.args.points.now c.args.values.now c.args.words.now in
+    let passed : first (generate_early what (length c.args.scratch.now)) ≡ 0 = sym c.generate_number-number.ensures ∙ c.if-number-ne0.false in
+    let facts : Early what (length c.args.scratch.now) = early what _ passed in
     omega (arith, facts.few_buckets, facts.few_points)
 
 pub slice_bounds-make_in-end : goal.slice_bounds-make_in-end
 slice_bounds-make_in-end c =
-    let passed : first (generate_early (what c) (length c.args.scratch.now)) ≡ 0 = sym c.generate_number-number.ensures ∙ c.if-number-ne0.false in
-    let facts : Early (what c) (length c.args.scratch.now) = early (what c) _ passed in
+    let what : Given = given c.args.domain c.args.buckets c.args.keys c.args.points.now c.args.values.now c.args.words.now in
+    let passed : first (generate_early what (length c.args.scratch.now)) ≡ 0 = sym c.generate_number-number.ensures ∙ c.if-number-ne0.false in
+    let facts : Early what (length c.args.scratch.now) = early what _ passed in
     facts.room
 
 pub slice_bounds-make_in-end-2 : goal.slice_bounds-make_in-end-2
 slice_bounds-make_in-end-2 c =
-    let passed : first (generate_early (what c) (length c.args.scratch.now)) ≡ 0 = sym c.generate_number-number.ensures ∙ c.if-number-ne0.false in
-    let facts : Early (what c) (length c.args.scratch.now) = early (what c) _ passed in
-    let part-long : length (take (generate_room (what c)) c.args.scratch.now) ≡ generate_room (what c) = length-take-le _ _ facts.room in
+    let what : Given = given c.args.domain c.args.buckets c.args.keys c.args.points.now c.args.values.now c.args.words.now in
+    let passed : first (generate_early what (length c.args.scratch.now)) ≡ 0 = sym c.generate_number-number.ensures ∙ c.if-number-ne0.false in
+    let facts : Early what (length c.args.scratch.now) = early what _ passed in
+    let part-long : length (take (generate_room what) c.args.scratch.now) ≡ generate_room what = length-take-le _ _ facts.room in
     sym part-long

@@ -46,20 +46,20 @@ unfolding lengths_by
 loop-c-preserved c =
     let length-is : c.record_length-len.result ≡ (lengths_by c.args.sizes.now) c.loop-c.c = c.record_length-len.ensures in
     let entry_is : c.entry_for.result ≡ entry_for c.args.n (lengths_by c.args.sizes.now) c.loop-c.c = c.entry_for.ensures ∙ entry_of c.args.n (lengths_by c.args.sizes.now) c.loop-c.c length-is c.loop-c.invariant.2 in
-    let more : {l : List ℕ}
+    let more : (l : List ℕ)
     → l ≡ stored c.loop-c.buf (72 + 8 * c.loop-c.c) (le_bytes 8 c.entry_for.result)
-    → l ≡ put c.args.buf.now 72 (directory_bytes c.args.n (lengths_by c.args.sizes.now) (c.loop-c.c + 1)) = λ e. let entry = entry_for c.args.n (lengths_by c.args.sizes.now) c.loop-c.c in
+    → l ≡ put c.args.buf.now 72 (directory_bytes c.args.n (lengths_by c.args.sizes.now) (c.loop-c.c + 1)) = λ _ e. let entry = entry_for c.args.n (lengths_by c.args.sizes.now) c.loop-c.c in
     let loop = c.loop-c in
     let long = length_directory c.args.n (lengths_by c.args.sizes.now) c.loop-c.c in
     let eight = length-le_bytes 8 entry in
-    let enough = room c in
+    let enough : 72 + 8 * c.args.n ≤ length c.args.buf.now = omega (arith, c.requires.sizes_in_bounds, record_start-least c.args.n (lengths_by c.args.sizes.now) c.args.n) in
     let below : c.loop-c.c + 1 ≤ c.args.n = omega (arith, c.loop-c-test.true) in
     rw (directory_next c.args.n (lengths_by c.args.sizes.now) c.loop-c.c)
     (stored_next c.args.buf.now 72 (72 + 8 * c.loop-c.c) (directory_bytes c.args.n (lengths_by c.args.sizes.now) c.loop-c.c) (le_bytes 8 entry) loop.invariant.3
     (e ∙ ap (λ (x : ℕ). stored loop.buf (72 + 8 * c.loop-c.c) (le_bytes 8 x)) entry_is) (omega arith) (omega arith)) in
     let room : 72 + 8 * c.args.n ≤ length c.args.buf.now = omega (arith, c.requires.sizes_in_bounds, record_start-least c.args.n (lengths_by c.args.sizes.now) c.args.n) in
     let l = c.loop-c in
-    let now-is = more c.put_u64.ensures.bytes in
+    let now-is = more _ c.put_u64.ensures.bytes in
     let long = length_directory c.args.n (lengths_by c.args.sizes.now) (c.loop-c.c + 1) in
     let below : c.loop-c.c + 1 ≤ c.args.n =
     omega (arith, c.loop-c-test.true) in (
@@ -74,7 +74,7 @@ pub returns : goal.returns
 returns c =
     let l = c.loop-c in
     let e : l.c ≡ c.args.n = omega arith in
-    rw e c.loop-c.c
+    rw e at l.invariant.3
 
 pub overflow_mul-at : goal.overflow_mul-at
 overflow_mul-at c =

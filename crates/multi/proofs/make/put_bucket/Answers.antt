@@ -23,7 +23,7 @@ returns c =
     let size = c.element-size.ensures in
     let spot = c.element-alpha.ensures in
     let holder = c.element.ensures in
-    let value = c.value_of.ensures in record {
+    let value = c.value_of-beta.ensures in record {
       first = c.put_pair.ensures.first
           ∙ ap (put a.key0.now a.at)
           (from_is (hash_by a.h) a.holders.now a.sizes.now a.spots.now a.values.now a.words.now false

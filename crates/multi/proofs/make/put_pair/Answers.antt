@@ -20,19 +20,13 @@ returns-then-size-eq0 c =
       second = sym (ap (put a.key1.now a.at) (by_none _ _ _ _ _ _ _ none) ∙ put_nil _ _);
     }
 
-made-are : (c : goal.After-make_keys-pair) → c.make-keys.result ≡ record {
-  number = 0;
-  key0 = key_of (made (hash_by (s c).args.h) (s c).args.size (s c).args.alpha (s c).args.r0 (s c).args.r1 64 (s c).args.beta false);
-  key1 = key_of (made (hash_by (s c).args.h) (s c).args.size (s c).args.alpha (s c).args.r0 (s c).args.r1 64 (s c).args.beta true);
-}
-made-are c = c.make-keys.ensures ∙ keys_are _ _ _ _ _ _ c.before.if1.false (s c).pre.0 (s c).pre.1
-
 pub returns : goal.returns
 returns c =
     let a = c.args in
-    let some = c.if-size-eq0.false in record {
-      first = stored_by _ _ _ _ _ _ _ a.key0.now a.at some c.requires.0 (ap (λ (k : KeyPair). k.key0) (made-are c))
+    let some = c.if-size-eq0.false in
+    let made_are = c.make_keys-pair.ensures ∙ keys_are _ _ _ _ _ _ some c.requires.0 c.requires.1 in record {
+      first = stored_by _ _ _ _ _ _ _ a.key0.now a.at some c.requires.0 (ap (λ (k : KeyPair). k.key0) made_are)
           c.requires.2 c.put_record.ensures.bytes;
-      second = stored_by _ _ _ _ _ _ _ a.key1.now a.at some c.requires.0 (ap (λ (k : KeyPair). k.key1) (made-are c))
+      second = stored_by _ _ _ _ _ _ _ a.key1.now a.at some c.requires.0 (ap (λ (k : KeyPair). k.key1) made_are)
           c.requires.3 c.put_record-2.ensures.bytes;
     }

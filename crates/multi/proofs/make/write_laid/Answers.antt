@@ -59,7 +59,7 @@ returns c =
     let fits : Fitting c.args.sizes.now c.args.spots.now (length c.args.key0.now) (length c.args.key1.now) = laid_fits _ _ _ _ _ c.requires.0 c.requires.1 c.requires.2 none in
     laid_written _ _ _ _ _ _ _ _ _ _ _ _ c.sum_up-t.ensures none fits (omega (arith, c)) _
     c.new.ensures
-    _ _ _ _ c.put_front.ensures c.put_front-2.ensures c.put_records.ensures
+    _ _ _ _ c.put_front.ensures c.put_front-2.ensures (c.put_records.ensures.first, c.put_records.ensures.second)
 
 pub put_front-requires : goal.put_front-requires
 put_front-requires c =

@@ -22,7 +22,7 @@ pub same_sizes-requires : goal.same_sizes-requires
 same_sizes-requires c =
     let buckets : c.buckets-b.result ≡ buckets_in c.args.key.now = c.buckets-b.ensures in
     let counts : c.starts.new.work ≡ with_starts (bucket_by c.args.hashes (buckets_in c.args.key.now)) c.args.key.now c.args.scratch.now = let domain = c.domain.ensures in
-    domain-starts (bucket_by c.args.hashes) c.args.key.now c.pre.0 _ _ _ _ _ domain buckets c.pre.1
+    domain-starts (bucket_by c.args.hashes) c.args.key.now c.requires.0 _ _ _ _ _ domain buckets c.requires.1
     c.starts.ensures in
     omega (
       arith,
@@ -35,7 +35,7 @@ pub returns-then-not-same_sizes : goal.returns-then-not-same_sizes
 returns-then-not-same_sizes c =
     let buckets : c.buckets-b.result ≡ buckets_in c.args.key.now = c.buckets-b.ensures in
     let counts : c.starts.new.work ≡ with_starts (bucket_by c.args.hashes (buckets_in c.args.key.now)) c.args.key.now c.args.scratch.now = let domain = c.domain.ensures in
-    domain-starts (bucket_by c.args.hashes) c.args.key.now c.pre.0 _ _ _ _ _ domain buckets c.pre.1
+    domain-starts (bucket_by c.args.hashes) c.args.key.now c.requires.0 _ _ _ _ _ domain buckets c.requires.1
     c.starts.ensures in
     let compares : c.same_sizes.result ≡ matches_by (bucket_by c.args.hashes (buckets_in c.args.key.now)) c.args.key.now = c.same_sizes.ensures ∙ compared _ c.args.key.now _ (with_starts-part _ c.args.key.now _ _ _ buckets counts) in
     let other = sym compares ∙ c.if-not-same_sizes.true in record {
@@ -47,13 +47,13 @@ pub expand-requires : goal.expand-requires
 expand-requires c =
     let buckets : c.buckets-b.result ≡ buckets_in c.args.key.now = c.buckets-b.ensures in
     let counts : c.starts.new.work ≡ with_starts (bucket_by c.args.hashes (buckets_in c.args.key.now)) c.args.key.now c.args.scratch.now = let domain = c.domain.ensures in
-    domain-starts (bucket_by c.args.hashes) c.args.key.now c.pre.0 _ _ _ _ _ domain buckets c.pre.1
+    domain-starts (bucket_by c.args.hashes) c.args.key.now c.requires.0 _ _ _ _ _ domain buckets c.requires.1
     c.starts.ensures in
     let compares : c.same_sizes.result ≡ matches_by (bucket_by c.args.hashes (buckets_in c.args.key.now)) c.args.key.now = c.same_sizes.ensures ∙ compared _ c.args.key.now _ (with_starts-part _ c.args.key.now _ _ _ buckets counts) in
     let matching : matches_by (bucket_by c.args.hashes (buckets_in c.args.key.now)) c.args.key.now ≡ true = sym compares ∙ c.if-not-same_sizes.false in
-    let low = functions-below c.args.hashes c.args.key.now c.pre.0 in
-    let ready = ready_of c.args.key.now (bucket_by c.args.hashes (buckets_in c.args.key.now)) low matching c.args.scratch.now c.pre.1 in record {
-      key_value = c.pre.0;
+    let low = functions-below c.args.hashes c.args.key.now c.requires.0 in
+    let ready = ready_of c.args.key.now (bucket_by c.args.hashes (buckets_in c.args.key.now)) low matching c.args.scratch.now c.requires.1 in record {
+      key_value = c.requires.0;
       ready = rw (← counts) at ready;
     }
 
@@ -61,7 +61,7 @@ pub returns : goal.returns
 returns c =
     let buckets : c.buckets-b.result ≡ buckets_in c.args.key.now = c.buckets-b.ensures in
     let counts : c.starts.new.work ≡ with_starts (bucket_by c.args.hashes (buckets_in c.args.key.now)) c.args.key.now c.args.scratch.now = let domain = c.domain.ensures in
-    domain-starts (bucket_by c.args.hashes) c.args.key.now c.pre.0 _ _ _ _ _ domain buckets c.pre.1
+    domain-starts (bucket_by c.args.hashes) c.args.key.now c.requires.0 _ _ _ _ _ domain buckets c.requires.1
     c.starts.ensures in
     let compares : c.same_sizes.result ≡ matches_by (bucket_by c.args.hashes (buckets_in c.args.key.now)) c.args.key.now = c.same_sizes.ensures ∙ compared _ c.args.key.now _ (with_starts-part _ c.args.key.now _ _ _ buckets counts) in
     let matching : matches_by (bucket_by c.args.hashes (buckets_in c.args.key.now)) c.args.key.now ≡ true = sym compares ∙ c.if-not-same_sizes.false in

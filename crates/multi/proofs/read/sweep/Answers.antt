@@ -16,5 +16,5 @@ pub returns : goal.returns
 returns c =
     let r = let l = c.args.key.now in
     let own = functions_in_lem l _ _ c.new-hashes.ensures c.hash_keys.ensures in
-    fill_own _ tree_hash _ _ l _ _ own _ _ _ _ _ c.fill_cells-number.ensures c.domain_room.ensures
-    c.zero_first.ensures in record { answer = r.0; scratch = r.1; cells = r.2 }
+    fill_own _ tree_hash _ _ l _ _ own _ _ _ _ _ (c.fill_cells-number.ensures.answer, (c.fill_cells-number.ensures.behind, c.fill_cells-number.ensures.cells)) c.domain_room.ensures
+    c.zero_first.ensures in record { answer = r.0; scratch = r.1.0; cells = r.1.1 }
