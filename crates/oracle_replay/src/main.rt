@@ -2,6 +2,10 @@
 // every lent slice are compared with what the list has. Printed are, for each list, how it was made, the first disagreement if
 // there is one, and the counts of each kind and of all.
 // The format is in oracle/README.md, "The replay lists".
+ghost use Rattle.std.specs.Prelude.{◌≤◌, length, IfOk};
+
+use std::fs::File;
+use std::io::Read;
 use replay::{Account, Record, Tally};
 
 mod given;
@@ -133,19 +137,30 @@ fn replay_list(list: &[u8]) {
     a.close();
 }
 
-fn replay_file(path: &[u8]) {
-    let fd = os::open_read(path);
-    if fd < 0 {
-        os::fail(path);
-        return;
+// Reads the file until it ends or `space` is full; the answer is how many bytes now stand at the start of `space`.
+fn read_full(file: &mut File, space: &mut [u8]) -> std::io::Result<usize>
+    ensures { IfOk result (λ n. n ≤ length space.new) }
+{
+    let mut done: usize = 0;
+    while done < space.len() {
+        let got = file.read(&mut space[done..])?;
+        if got == 0 {
+            break;
+        }
+        done += got;
     }
-    let mut space = io::large_buffer();
-    let n = io::read_full(fd, &mut space);
-    libc::close(fd);
-    replay_list(&space[..n]);
+    Ok(done)
 }
 
-fn main() {
-    replay_file(b"single_replay.list");
-    replay_file(b"multi_replay.list");
+fn replay_file(rt: &HostRuntime, path: &str) -> std::io::Result<()> {
+    let mut file = File::open(rt, path)?;
+    let mut space = io::large_buffer();
+    let n = read_full(&mut file, &mut space)?;
+    replay_list(&space[..n]);
+    Ok(())
+}
+
+fn main(rt: HostRuntime) -> std::io::Result<()> {
+    replay_file(&rt, "single_replay.list")?;
+    replay_file(&rt, "multi_replay.list")
 }

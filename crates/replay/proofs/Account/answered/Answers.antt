@@ -1,0 +1,6 @@
+-- `replay::Account::answered` meets its contract. Assumes nothing.
+use borrow.Author.Rules.{rules}
+use Rattle.replay.proofs.Account.answered.Goals as goal
+
+pub returns : goal.returns
+returns c = rw c.next_call.ensures at c.value.ensures

@@ -1,0 +1,6 @@
+-- `replay::Account::next_call` meets its contract. Assumes nothing.
+use borrow.Author.Rules.{rules}
+use Rattle.replay.proofs.Account.next_call.Goals as goal
+
+pub returns : goal.returns
+returns c = rw c.plus.ensures

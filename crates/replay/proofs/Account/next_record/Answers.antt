@@ -1,0 +1,6 @@
+-- `replay::Account::next_record` meets its contract. Assumes nothing.
+use borrow.Author.Rules.{rules}
+use Rattle.replay.proofs.Account.next_record.Goals as goal
+
+pub returns : goal.returns
+returns c = rw c.plus.ensures

@@ -1,0 +1,18 @@
+-- `replay::fill` meets its contract. The invariant: the elements below i are fields. The measure is what is left. Assumes nothing.
+use mathlib.Core.Path.{◌≡◌, refl, sym, ap, ◌∙◌}
+use Prim.Native.Nat.{ℕ, ◌-◌, ◌≤◌}
+use native.Mathlib.Omega.{arith}
+use borrow.Author.Rules.{rules}
+use lib.ListN.{length, length-set}
+use Rattle.words.specs.Bytes.{put}
+use Rattle.words.specs.Cells.{tab}
+use Rattle.words.proofs.ByteLaws.{put_nil, put_whole}
+use Rattle.words.proofs.CellLaws.{put-tab, length-tab}
+use Rattle.replay.specs.Lists.{field}
+use Rattle.replay.proofs.fill.Given as goal
+
+abbrev pub invariant-loop-i : goal.invariant-loop-i
+invariant-loop-i l = (l.i ≤ length l.initial.cells) × (length l.cells ≡ length l.initial.cells) × (l.cells ≡ put l.initial.cells 0 (tab (field l.fields) l.i))
+
+abbrev pub decreases-loop-i : goal.decreases-loop-i
+decreases-loop-i l = length l.initial.cells - l.i
