@@ -1,5 +1,5 @@
 //! Links libmorgnet.a: the one that MORGNET_LIB names, else target/staticlib/libmorgnet.a of this
-//! repository, which `rt staticlib morgnet` writes.
+//! repository, which `tools/library` writes.
 use std::path::{Path, PathBuf};
 use std::process::Command;
 
@@ -21,7 +21,7 @@ fn main() {
     println!("cargo:rerun-if-changed={}", library.display());
     let Ok(library) = library.canonicalize() else {
         eprintln!("{} is not there.", library.display());
-        eprintln!("Run 'rt staticlib morgnet' at the top of the repository first ('./demo' does).");
+        eprintln!("Run 'tools/library' at the top of the repository first ('./demo' does).");
         std::process::exit(1);
     };
     if library.file_name() != Some("libmorgnet.a".as_ref()) {

@@ -13,7 +13,7 @@
  * proved to be what stands here, for every value of its arguments; and that the shares add up (docs/PROMISES.md). Not
  * proved: the compiler's back end, and what is said of secrets, time and stack.
  *
- * Linking: libmorgnet.a (made by 'rt staticlib morgnet', x86-64 Linux), and memcpy and memset of the C library.
+ * Linking: libmorgnet.a (made by 'tools/library', x86-64 Linux), and memcpy and memset of the C library.
  *
  * Calls. A call returns 0 for success, else a refusal of the enum below: the first that applies, in the order that the
  * call lists. Nothing is allocated, opened, printed or kept between calls; no call uses more than some 8 KiB of stack.

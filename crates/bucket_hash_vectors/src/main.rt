@@ -1,5 +1,7 @@
 // Runs the bucket hash at its limits and on a few items, one to a line: the case, then what the code gives. The buckets were
 // computed by a separate program over another AES: the low 64 bits of hash_ccr of the item, modulo B.
+#![tactic(auto)]
+
 use bucket_hash::Hashes;
 
 // A line: the buckets, the item, and the number and the bucket that they answer.

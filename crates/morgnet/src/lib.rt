@@ -1,5 +1,7 @@
 // Morgnet: the calls that C and Rust link (include/morgnet.h). Each is one call of the layer that does the work, under that
 // layer's contract, and demands nothing of its caller but what the header says of pointers.
+#![tactic(auto)]
+
 ghost use Rattle.std.specs.Prelude.{◌≡◌};
 ghost use Rattle.words.specs.Height.{tree_for};
 ghost use Rattle.cipher.specs.Fips197.{key_expansion, cipher};

@@ -21,7 +21,7 @@ use Rattle.words.proofs.CellLaws.{sum_mono}
 use Rattle.single.specs.Rules.{Record}
 use Rattle.single.specs.Record as single
 use Rattle.single.specs.ReadBack.{Whole}
-use Rattle.single.proofs.RecordLaws.{accepted, field_right}
+use Rattle.single.proofs.RecordLaws.{field_right}
 use Rattle.multi.specs.Image.{record_start, header_bytes, entry_for, directory_bytes, records_bytes, bytes_of, lengths, multi_bytes, party_in, buckets_in, domain_in, count_in, offset_in, keys_in, entry_in, bucket_part, bucket_record, header_tests, header_ok, next_in, slot_ok, slots_ok, multi_ok}
 use Rattle.multi.specs.ReadBack.{Fair, MultiReadsBack}
 use Rattle.multi.proofs.RecordPlaces.{record_start-least, record_start_same, bucket_part-none, bucket_part_there}

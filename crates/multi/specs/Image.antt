@@ -19,7 +19,7 @@
 --     multi_ok l                      whether bytes are a multi image
 --     record_number l c, place_of l c, record_given l c    handing out a bucket's record
 -- Assumes nothing.
-use Rattle.std.specs.Prelude.{Bool, true, false, not, cond, List, [], ◌∷◌, ◌++◌, ℕ, zero, suc, ◌+◌, ◌*◌, leb, eqb, length, take, drop, get_or}
+use Rattle.std.specs.Prelude.{Bool, true, not, cond, List, [], ◌∷◌, ◌++◌, ℕ, zero, suc, ◌+◌, ◌*◌, leb, eqb, length, take, drop, get_or}
 use Rattle.words.specs.Limits.{largest_multi, largest_single, most_buckets}
 use Rattle.words.specs.Bytes.{le_bytes, field}
 use Rattle.words.specs.Cells.{sum_to}

@@ -13,7 +13,6 @@ use Rattle.words.specs.Word.{On128}
 use Rattle.words.specs.Height.{height}
 use Rattle.cipher.specs.TreeHash.{tree_hash}
 use Rattle.bucket_hash.specs.BucketHash.{bucket_of}
-use Rattle.single.specs.Rules.{Record}
 use Rattle.single.specs.Tables.{Demand3, Call, taken}
 use Rattle.single.specs.Promises.{FitsRecord}
 use Rattle.placement.specs.Buckets.{size_of}

@@ -10,7 +10,7 @@
 --     made_record H w h D pts vs t ws p b   party p's record of bucket b: values vs at points pts, placed by the table t
 --     made_share H w h D pts vs t ws p x    the share of cell x that these records give
 -- Assumes nothing.
-use Rattle.std.specs.Prelude.{Bool, cond, List, ℕ, ◌+◌, ◌*◌, ◌/◌, ◌%◌, ◌^◌, min, eqb, get_or, length}
+use Rattle.std.specs.Prelude.{Bool, cond, List, ℕ, ◌+◌, ◌/◌, ◌%◌, ◌^◌, min, eqb, length}
 use Rattle.words.specs.declared.Word.{Word}
 use Rattle.words.specs.Cells.{sum_to, word_no}
 use Rattle.single.specs.Rules.{Record, made, share}

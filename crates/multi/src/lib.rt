@@ -3,6 +3,7 @@
 // Source: dpf/src/mpdpf.rs, `SmartMpDpf`.
 // What a key means is in specs/Rules.antt, over any tree hash, any width and any bucket functions; what each public call gives
 // is one definition of specs/Calls.antt.
+#![tactic(auto)]
 
 pub mod calls;
 pub mod image;

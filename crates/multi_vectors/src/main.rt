@@ -3,6 +3,8 @@
 // computed by a separate program over another AES, written from document 01. Demand 3 from end to end is the program postings;
 // pairs in many shapes and damaged images are those of oracle_replay.
 // Source: document 01, "Numbers", "Rules of buckets and placement", "Key images", "Refusal numbers" and "Known sums".
+#![tactic(auto)]
+
 mod makers;
 mod readers;
 

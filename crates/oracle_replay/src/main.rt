@@ -2,11 +2,13 @@
 // every lent slice are compared with what the list has. Printed are, for each list, how it was made, the first disagreement if
 // there is one, and the counts of each kind and of all.
 // The format is in oracle/README.md, "The replay lists".
+#![tactic(auto)]
+
 ghost use Rattle.std.specs.Prelude.{◌≤◌, length, IfOk};
 
+use replay::{Account, Record, Tally};
 use std::fs::File;
 use std::io::Read;
-use replay::{Account, Record, Tally};
 
 mod given;
 mod hashes;

@@ -1,6 +1,8 @@
 // Runs placement at its limits, on lists that place and on one that gives up, one to a line: the case, the number and the
 // evictions, then the scratch, whose elements are 9 before each call. What is expected was computed by a separate program
 // over another AES: the walk and the counting of document 01, "Rules of buckets and placement".
+#![tactic(auto)]
+
 use bucket_hash::Hashes;
 
 // One number after a space.

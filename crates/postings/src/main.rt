@@ -2,6 +2,8 @@
 // The partners add them to tables of their own, each in another order, with refused calls of several kinds between. Then the
 // two tables are summed, cell by cell, and held against the plain table: what was in both at first, and all that was posted.
 // What is expected was computed by a separate program over another AES, written from document 01.
+#![tactic(auto)]
+
 mod desk;
 mod partners;
 

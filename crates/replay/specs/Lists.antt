@@ -7,7 +7,7 @@
 --     untallied, tallied     the account of one kind at first, and after a record
 --     Compared               what comparing a slice shows: where no disagreement is noted, every element is what is wanted
 -- Assumes nothing.
-use Rattle.std.specs.Prelude.{◌≡◌, ◌⊎◌, Bool, true, false, cond, List, ℕ, ◌*◌, ◌/◌, ◌≤◌, ◌<◌, ltb, eqb, length, get_or}
+use Rattle.std.specs.Prelude.{◌≡◌, ◌⊎◌, true, false, cond, List, ℕ, ◌*◌, ◌/◌, ◌≤◌, ◌<◌, ltb, eqb, length, get_or}
 use Rattle.words.specs.Bytes as bytes
 use Rattle.words.specs.Ring.{add, sub}
 use Rattle.replay.specs.declared.Account.{Account}

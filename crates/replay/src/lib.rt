@@ -1,6 +1,8 @@
 // Lists of the oracle's answers, for the programs that replay one: records are found, fields read, answers compared and counted.
 // The format of a list is in oracle/README.md, "The replay lists". Every function is total on any bytes.
 // What is read and compared is in specs/Lists.antt; of what is printed no contract can speak.
+#![tactic(auto)]
+
 ghost use Rattle.std.specs.Prelude.{◌≡◌, ◌⊎◌, [], ℕ, ◌+◌, ◌≤◌, ◌<◌, length, get_or};
 ghost use Rattle.words.specs.Cells.{tab};
 ghost use Rattle.replay.specs.Lists as spec;

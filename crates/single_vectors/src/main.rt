@@ -2,6 +2,8 @@
 // its neighbours, one case to a line: the case, then what the code gives. The shares of a pair sum to the value at its point
 // and to 0 elsewhere, so a list of sums shows that point alone.
 // Source: document 01, "Numbers", "Rules of the single key" and "Refusal numbers".
+#![tactic(auto)]
+
 mod limits;
 mod pairs;
 

@@ -1,6 +1,8 @@
 // What the programs that show and replay answers share: printing, numbers that stand for all elements of a slice, words and
 // hash keys from a seed, and parts of a slice. Every function is total. What each answers is in specs/Tools.antt; of what is
 // printed no contract can speak.
+#![tactic(auto)]
+
 ghost use Rattle.std.specs.Prelude.{◌≡◌, ◌%◌, length, take};
 ghost use Rattle.words.specs.Cells.{tab};
 ghost use Rattle.tools.specs.Tools as spec;

@@ -1,5 +1,7 @@
 // Runs the known sums of document 01 that concern words, and their neighbours, one to a line: the case, then what the code
 // gives.
+#![tactic(auto)]
+
 use words::{Tree, Word, bytes, cells, sums};
 
 // A line: the name of the case and a number in hexadecimal.

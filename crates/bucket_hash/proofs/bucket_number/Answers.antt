@@ -1,6 +1,6 @@
 -- `bucket_hash::bucket_number` meets its contract: at each `return` the tests that led there say which row holds.
 -- Assumes nothing.
-use mathlib.Core.Path.{◌≡◌, sym, ◌∙◌}
+use mathlib.Core.Path.{sym, ◌∙◌}
 use borrow.Author.Tests.{lt-ltb, le-ltb}
 use Rattle.words.proofs.TestLaws.{first-none, first_hit, first_miss}
 use Rattle.bucket_hash.specs.BucketHash.{bucket_number}

@@ -1,16 +1,10 @@
 -- `bucket_hash::key_at` meets its contract. The invariant: the bytes below i are those of the keys, the others 0. The measure
 -- is what is left of the 16. Assumes nothing.
-use mathlib.Core.Path.{◌≡◌, refl, sym, ap, ◌∙◌}
-use mathlib.Core.List.{List}
-use Prim.Native.Nat.{ℕ, ◌+◌, ◌-◌, ◌≤◌}
-use native.Mathlib.Omega.{arith}
-use borrow.Author.Rules.{rules}
-use lib.ListN.{length, get_or, replicate, length-set}
+use mathlib.Core.Path.{◌≡◌}
+use Prim.Native.Nat.{◌+◌, ◌-◌, ◌≤◌}
+use lib.ListN.{length, get_or, replicate}
 use Rattle.words.specs.Bytes.{put}
 use Rattle.words.specs.Cells.{tab}
-use Rattle.words.proofs.ByteLaws.{put_nil, put_whole}
-use Rattle.words.proofs.CellLaws.{length-tab, put-tab}
-use Rattle.bucket_hash.specs.BucketHash.{key_at}
 use Rattle.bucket_hash.proofs.key_at.Given as goal
 
 abbrev pub invariant-loop-i : goal.invariant-loop-i

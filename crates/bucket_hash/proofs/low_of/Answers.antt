@@ -1,6 +1,5 @@
 -- `bucket_hash::low_of` meets its contract: the low half of what the cipher ensures. Assumes nothing.
-use mathlib.Core.Path.{◌≡◌, ap}
-use borrow.Author.Rules.{rules}
+use mathlib.Core.Path.{ap}
 use Rattle.words.specs.declared.Word.{Word}
 use Rattle.bucket_hash.specs.BucketHash.{low_hash}
 use Rattle.bucket_hash.proofs.low_of.Goals as goal

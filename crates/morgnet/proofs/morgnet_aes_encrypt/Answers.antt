@@ -1,5 +1,4 @@
 -- `morgnet::morgnet_aes_encrypt` meets its contract: the key is expanded, and the block encrypted. Assumes nothing.
-use borrow.Author.Rules.{rules}
 use Rattle.morgnet.proofs.morgnet_aes_encrypt.Goals as goal
 
 pub returns : goal.returns

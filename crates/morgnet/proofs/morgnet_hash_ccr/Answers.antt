@@ -1,5 +1,4 @@
 -- `morgnet::morgnet_hash_ccr` meets its contract: the key is expanded, and the word hashed. Assumes nothing.
-use borrow.Author.Rules.{rules}
 use Rattle.morgnet.proofs.morgnet_hash_ccr.Goals as goal
 
 pub returns : goal.returns

@@ -1,5 +1,4 @@
 -- `morgnet::morgnet_multi_generate_keys` meets its contract: what `multi` answers, as an array. Assumes nothing.
-use borrow.Author.Rules.{rules}
 use mathlib.Core.Path.{ap}
 use Rattle.morgnet.specs.Face.{multi_made}
 use Rattle.morgnet.proofs.morgnet_multi_generate_keys.Goals as goal

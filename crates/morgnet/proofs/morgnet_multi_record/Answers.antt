@@ -1,5 +1,4 @@
 -- `morgnet::morgnet_multi_record` meets its contract: where the record stands, as an array. Assumes nothing.
-use borrow.Author.Rules.{rules}
 use mathlib.Core.Path.{ap}
 use Rattle.morgnet.specs.Face.{place_given}
 use Rattle.morgnet.proofs.morgnet_multi_record.Goals as goal

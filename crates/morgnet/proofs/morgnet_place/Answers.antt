@@ -1,5 +1,4 @@
 -- `morgnet::morgnet_place` meets its contract: the ciphers are those of the keys. Assumes nothing.
-use borrow.Author.Rules.{rules}
 use mathlib.Core.Path.{ap, ◌∙◌}
 use Prim.Native.Nat.{ℕ}
 use Rattle.bucket_hash.specs.declared.Hashes.{Hashes}

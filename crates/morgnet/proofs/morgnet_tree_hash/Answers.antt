@@ -1,5 +1,4 @@
 -- `morgnet::morgnet_tree_hash` meets its contract: the tree hash is made, and the word hashed. Assumes nothing.
-use borrow.Author.Rules.{rules}
 use Rattle.morgnet.proofs.morgnet_tree_hash.Goals as goal
 
 pub returns : goal.returns

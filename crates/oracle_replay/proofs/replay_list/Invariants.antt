@@ -1,5 +1,4 @@
 -- `oracle_replay::replay_list` is safe and ends. The measure is the number of turns that are left. Assumes nothing.
-use borrow.Author.Rules.{rules}
 use Rattle.oracle_replay.proofs.replay_list.Given as goal
 
 abbrev pub invariant-loop-turns : goal.invariant-loop-turns

@@ -1,7 +1,6 @@
 -- `placement::place` meets its contract: it places with nothing behind. Assumes nothing.
 use mathlib.Core.Path.{◌∙◌}
 use native.Mathlib.Omega.{arith}
-use borrow.Author.Rules.{rules}
 use Rattle.placement.proofs.CallLaws.{over_none}
 use Rattle.placement.proofs.place.Goals as goal
 

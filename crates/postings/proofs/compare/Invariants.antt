@@ -1,7 +1,5 @@
 -- `postings::compare` is safe and ends. The invariant: x is at most 40. The measure is what is left of 40. Assumes nothing.
 use Prim.Native.Nat.{◌-◌, ◌≤◌}
-use lib.ListN.{length}
-use borrow.Author.Rules.{rules}
 use Rattle.postings.proofs.compare.Given as goal
 
 abbrev pub invariant-loop-x : goal.invariant-loop-x

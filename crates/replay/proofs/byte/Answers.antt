@@ -1,7 +1,6 @@
 -- `replay::byte` meets its contract: within the list the default is never taken, behind it always. Assumes nothing.
 use mathlib.Core.Path.{sym}
 use native.Mathlib.Omega.{arith}
-use borrow.Author.Rules.{rules}
 use lib.ListN.{get_or-eq_default}
 use Rattle.replay.proofs.ListLaws.{get_or-inside}
 use Rattle.replay.proofs.byte.Goals as goal

@@ -1,7 +1,6 @@
 -- `replay::field` meets its contract. Assumes nothing.
 use mathlib.Core.Path.{◌∙◌}
 use native.Mathlib.Omega.{arith}
-use borrow.Author.Rules.{rules}
 use Rattle.replay.proofs.ListLaws.{field_there, field-none}
 use Rattle.replay.proofs.field.Goals as goal
 

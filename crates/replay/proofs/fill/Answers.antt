@@ -1,14 +1,11 @@
 -- `replay::fill` meets its contract. The invariant: the elements below i are fields. The measure is what is left. Assumes nothing.
-use mathlib.Core.Path.{◌≡◌, refl, sym, ap, ◌∙◌}
-use Prim.Native.Nat.{ℕ, ◌-◌, ◌≤◌}
+use mathlib.Core.Path.{◌≡◌, refl, sym, ◌∙◌}
 use native.Mathlib.Omega.{arith}
 use borrow.Author.Rules.{rules}
 use lib.ListN.{length, length-set}
-use Rattle.words.specs.Bytes.{put}
 use Rattle.words.specs.Cells.{tab}
 use Rattle.words.proofs.ByteLaws.{put_nil, put_whole}
 use Rattle.words.proofs.CellLaws.{put-tab, length-tab}
-use Rattle.replay.specs.Lists.{field}
 use Rattle.replay.proofs.fill.Goals as goal
 
 pub loop-i-init : goal.loop-i-init

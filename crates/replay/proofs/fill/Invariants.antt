@@ -1,13 +1,9 @@
 -- `replay::fill` meets its contract. The invariant: the elements below i are fields. The measure is what is left. Assumes nothing.
-use mathlib.Core.Path.{◌≡◌, refl, sym, ap, ◌∙◌}
-use Prim.Native.Nat.{ℕ, ◌-◌, ◌≤◌}
-use native.Mathlib.Omega.{arith}
-use borrow.Author.Rules.{rules}
-use lib.ListN.{length, length-set}
+use mathlib.Core.Path.{◌≡◌}
+use Prim.Native.Nat.{◌-◌, ◌≤◌}
+use lib.ListN.{length}
 use Rattle.words.specs.Bytes.{put}
 use Rattle.words.specs.Cells.{tab}
-use Rattle.words.proofs.ByteLaws.{put_nil, put_whole}
-use Rattle.words.proofs.CellLaws.{put-tab, length-tab}
 use Rattle.replay.specs.Lists.{field}
 use Rattle.replay.proofs.fill.Given as goal
 

@@ -1,9 +1,6 @@
 -- `replay::other_cell` meets its contract. The invariant: the elements below i are what is wanted. The measure is what is left.
 -- Assumes nothing.
-use mathlib.Core.Path.{◌∙◌}
 use Prim.Native.Nat.{◌-◌}
-use borrow.Author.Count.{below_more}
-use borrow.Author.Rules.{rules}
 use lib.ListN.{length}
 use Rattle.replay.specs.Lists.{wanted_cell, Alike}
 use Rattle.replay.proofs.other_cell.Given as goal

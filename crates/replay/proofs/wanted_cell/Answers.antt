@@ -1,7 +1,6 @@
 -- `replay::wanted_cell` meets its contract. Assumes nothing.
-use mathlib.Core.Path.{◌≡◌, ap, ◌∙◌}
+use mathlib.Core.Path.{ap, ◌∙◌}
 use native.Mathlib.Omega.{arith}
-use borrow.Author.Rules.{rules}
 use Rattle.words.specs.Ring.{add}
 use Rattle.replay.proofs.ListLaws.{wanted_field, wanted_kept}
 use Rattle.replay.proofs.wanted_cell.Goals as goal

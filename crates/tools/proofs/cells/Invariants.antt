@@ -1,9 +1,7 @@
 -- `tools::cells` meets its contract. The invariant: x is at most the length. The measure is what is left of the slice.
 -- Assumes nothing.
 use Prim.Native.Nat.{◌-◌, ◌≤◌}
-use native.Mathlib.Omega.{arith}
 use lib.ListN.{length}
-use borrow.Author.Rules.{rules}
 use Rattle.tools.proofs.cells.Given as goal
 
 abbrev pub invariant-loop-x : goal.invariant-loop-x

@@ -1,6 +1,5 @@
 -- `tools::elements` meets its contract. Assumes nothing.
 use native.Mathlib.Omega.{arith}
-use borrow.Author.Rules.{rules}
 use Rattle.tools.proofs.ToolLaws.{part_none, part_span}
 use Rattle.tools.proofs.elements.Goals as goal
 

@@ -1,15 +1,13 @@
 -- `tools::fill` meets its contract. The invariant: the elements below i are drawn, and x stands before the next. The measure is
 -- what is left. Assumes nothing.
 use mathlib.Core.Path.{◌≡◌, refl, sym, ◌∙◌}
-use Prim.Native.Nat.{◌+◌, ◌-◌, ◌≤◌}
 use native.Mathlib.Omega.{arith}
 use borrow.Author.Rules.{rules}
 use lib.ListN.{length, length-set}
-use Rattle.words.specs.Bytes.{put}
 use Rattle.words.specs.Cells.{tab}
 use Rattle.words.proofs.ByteLaws.{put_nil, put_whole}
 use Rattle.words.proofs.CellLaws.{put-tab, length-tab}
-use Rattle.tools.specs.Tools.{later, drawn}
+use Rattle.tools.specs.Tools.{later}
 use Rattle.tools.proofs.ToolLaws.{drawn_next, drawn-later}
 use Rattle.tools.proofs.fill.Goals as goal
 

@@ -1,16 +1,11 @@
 -- `tools::fill` meets its contract. The invariant: the elements below i are drawn, and x stands before the next. The measure is
 -- what is left. Assumes nothing.
-use mathlib.Core.Path.{◌≡◌, refl, sym, ◌∙◌}
+use mathlib.Core.Path.{◌≡◌}
 use Prim.Native.Nat.{◌+◌, ◌-◌, ◌≤◌}
-use native.Mathlib.Omega.{arith}
-use borrow.Author.Rules.{rules}
-use lib.ListN.{length, length-set}
+use lib.ListN.{length}
 use Rattle.words.specs.Bytes.{put}
 use Rattle.words.specs.Cells.{tab}
-use Rattle.words.proofs.ByteLaws.{put_nil, put_whole}
-use Rattle.words.proofs.CellLaws.{put-tab, length-tab}
 use Rattle.tools.specs.Tools.{later, drawn}
-use Rattle.tools.proofs.ToolLaws.{drawn_next, drawn-later}
 use Rattle.tools.proofs.fill.Given as goal
 
 abbrev pub invariant-loop-i : goal.invariant-loop-i

@@ -1,11 +1,9 @@
 -- `tools::fold` meets its contract. The invariant: what is left, turned into the fold so far, gives the whole fold. The measure
 -- is what is left. Assumes nothing.
-use mathlib.Core.Path.{◌≡◌, refl, sym, ◌∙◌}
+use mathlib.Core.Path.{◌≡◌}
 use Prim.Native.Nat.{◌-◌, ◌≤◌}
-use borrow.Author.Rules.{rules}
 use lib.ListN.{length, drop}
 use Rattle.tools.specs.Tools.{folded}
-use Rattle.tools.proofs.ToolLaws.{fold_next, fold_end}
 use Rattle.tools.proofs.fold.Given as goal
 
 abbrev pub invariant-loop-i : goal.invariant-loop-i

@@ -1,10 +1,7 @@
 -- `tools::fold_bytes` meets its contract. The invariant: what is left, turned into the fold so far, gives the whole fold. The
 -- measure is what is left. Assumes nothing.
-use mathlib.Core.Path.{◌≡◌, refl, sym, ◌∙◌}
-use Prim.Native.Nat.{◌-◌, ◌≤◌}
+use mathlib.Core.Path.{refl, sym, ◌∙◌}
 use borrow.Author.Rules.{rules}
-use lib.ListN.{length, drop}
-use Rattle.tools.specs.Tools.{folded}
 use Rattle.tools.proofs.ToolLaws.{fold_next, fold_end}
 use Rattle.tools.proofs.fold_bytes.Goals as goal
 

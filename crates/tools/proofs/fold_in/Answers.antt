@@ -1,5 +1,4 @@
 -- `tools::fold_in` meets its contract: the three sums are rewritten one after the other. Assumes nothing.
-use borrow.Author.Rules.{rules}
 use Rattle.tools.specs.Tools.{turned}
 use Rattle.tools.proofs.fold_in.Goals as goal
 

@@ -1,15 +1,13 @@
 -- `tools::keys` meets its contract. The invariant: the bytes below i are those of the numbers drawn, and x stands before the
 -- next. The measure is what is left of 48. Assumes nothing.
 use mathlib.Core.Path.{◌≡◌, refl, sym, ap, ◌∙◌}
-use Prim.Native.Nat.{ℕ, ◌+◌, ◌-◌, ◌%◌, ◌≤◌}
+use Prim.Native.Nat.{ℕ, ◌%◌}
 use native.Mathlib.Omega.{arith}
 use borrow.Author.Rules.{rules}
-use lib.ListN.{length}
-use Rattle.words.specs.Bytes.{put}
 use Rattle.words.specs.Cells.{tab}
 use Rattle.words.proofs.ByteLaws.{put_nil, put_whole}
 use Rattle.words.proofs.CellLaws.{put-tab, length-tab}
-use Rattle.tools.specs.Tools.{later, drawn}
+use Rattle.tools.specs.Tools.{later}
 use Rattle.tools.proofs.ToolLaws.{drawn_next, drawn-later}
 use Rattle.tools.proofs.keys.Goals as goal
 

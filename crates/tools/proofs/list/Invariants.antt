@@ -1,9 +1,7 @@
 -- `tools::list` meets its contract. The invariant: i is at most the length. The measure is what is left of the slice.
 -- Assumes nothing.
 use Prim.Native.Nat.{◌-◌, ◌≤◌}
-use native.Mathlib.Omega.{arith}
 use lib.ListN.{length}
-use borrow.Author.Rules.{rules}
 use Rattle.tools.proofs.list.Given as goal
 
 abbrev pub invariant-loop-i : goal.invariant-loop-i

@@ -1,11 +1,6 @@
 -- `tools::zeros` meets its contract. The invariant: the count so far and the zeros of what is left are all of them. The
 -- measure is what is left. Assumes nothing.
-use mathlib.Core.Path.{◌≡◌}
-use Prim.Native.Nat.{◌+◌, ◌-◌, ◌≤◌}
 use native.Mathlib.Omega.{arith}
-use borrow.Author.Rules.{rules}
-use lib.ListN.{length, drop}
-use Rattle.tools.specs.Tools.{zeros_in}
 use Rattle.tools.proofs.ToolLaws.{zeros_here, zeros_other, zeros_end}
 use Rattle.tools.proofs.zeros.Goals.{then-t-i-eq0, else-t-i-eq0}
 use Rattle.tools.proofs.zeros.Goals as goal
@@ -16,7 +11,7 @@ loop-i-preserved c =
     let l = c.loop-i in
     let t = c.args.t.now in
     elim c.if-t-i-eq0.branch [
-      then-t-i-eq0 w ↦ (omega arith, omega arith, omega (arith, l.invariant.2, zeros_here t l.i inside w.if-t-i-eq0.true, w.n-is))
+      | then-t-i-eq0 w ↦ (omega arith, omega arith, omega (arith, l.invariant.2, zeros_here t l.i inside w.if-t-i-eq0.true, w.n-is))
       | else-t-i-eq0 w ↦ (omega arith, omega arith, omega (arith, l.invariant.2, zeros_other t l.i inside w.if-t-i-eq0.false, w.n-is))
     ]
 

@@ -1,13 +1,9 @@
 -- `tools::zeros` meets its contract. The invariant: the count so far and the zeros of what is left are all of them. The
 -- measure is what is left. Assumes nothing.
 use mathlib.Core.Path.{◌≡◌}
-use mathlib.Core.Logic.{⊎_elim}
 use Prim.Native.Nat.{◌+◌, ◌-◌, ◌≤◌}
-use native.Mathlib.Omega.{arith}
-use borrow.Author.Rules.{rules}
 use lib.ListN.{length, drop}
 use Rattle.tools.specs.Tools.{zeros_in}
-use Rattle.tools.proofs.ToolLaws.{zeros_here, zeros_other, zeros_end}
 use Rattle.tools.proofs.zeros.Given as goal
 
 abbrev pub invariant-loop-i : goal.invariant-loop-i

@@ -1,6 +1,6 @@
 -- `words::bit_of` meets its contract: element i of the bits is bit count - 1 - i, and there is none behind the last.
 -- Assumes nothing.
-use Rattle.std.proofs.Common.{sym, ◌∙◌, rules}
+use Rattle.std.proofs.Common.{sym, ◌∙◌}
 use Rattle.words.proofs.WordLaws.{bits_at, bits_none}
 use Rattle.words.proofs.bit_of.Goals as goal
 

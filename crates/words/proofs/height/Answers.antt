@@ -1,7 +1,6 @@
 -- `words::height` meets its contract: at each `return` the tests that led there say which row of `height_number` holds.
 -- Assumes nothing.
-use Rattle.std.proofs.Common.{◌≡◌, ℕ, ◌-◌, ◌<◌, ◌≤◌, ◌∙◌, arith, rules}
-use lib.Count.{count_leading_zeros, leading_le}
+use lib.Count.{leading_le}
 use Rattle.words.specs.Height.{height, tree_for}
 use Rattle.words.proofs.HeightLaws.{too_small, too_large, in_limits}
 use Rattle.words.proofs.height.Goals as goal

@@ -1,8 +1,7 @@
 -- `bucket_hash::Hashes::low` meets its contract: each branch takes the cipher of its function. Assumes nothing.
-use mathlib.Core.Path.{◌≡◌, refl, sym, ap, ◌∙◌}
+use mathlib.Core.Path.{◌≡◌, refl, ap, ◌∙◌}
 use mathlib.Core.List.{List}
 use Prim.Native.Nat.{ℕ, zero, suc}
-use borrow.Author.Rules.{rules}
 use Rattle.bucket_hash.specs.declared.Hashes.{Hashes}
 use Rattle.bucket_hash.specs.BucketHash.{low_hash, keys_of}
 use Rattle.bucket_hash.proofs.Hashes.low.Goals as goal

@@ -2,7 +2,6 @@
 use mathlib.Core.Path.{◌≡◌, ap, ◌∙◌}
 use mathlib.Core.List.{List}
 use Prim.Native.Nat.{ℕ}
-use borrow.Author.Rules.{rules}
 use Rattle.cipher.specs.declared.Aes.{Aes}
 use Rattle.cipher.specs.Fips197.{key_expansion}
 use Rattle.bucket_hash.specs.declared.Hashes.{Hashes}

@@ -1,6 +1,5 @@
 -- `cipher::Aes::encrypt_block` meets its contract: into columns, through the rounds, and back into bytes. Assumes nothing.
 use mathlib.Core.Path.{ap, ◌∙◌}
-use borrow.Author.Rules.{rules}
 use Rattle.cipher.specs.Fips197.{cipher}
 use Rattle.cipher.proofs.Aes.encrypt_block.Goals as goal
 

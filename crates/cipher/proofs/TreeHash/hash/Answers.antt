@@ -1,5 +1,4 @@
 -- `cipher::TreeHash::hash` meets its contract: its constant is the mask. Assumes nothing.
-use borrow.Author.Rules.{rules}
 use Rattle.cipher.specs.TreeHash.{hash_by}
 use Rattle.cipher.proofs.TreeHash.hash.Goals as goal
 

@@ -1,6 +1,5 @@
 -- `cipher::TreeHash::new` meets its contract: its constant is the fixed key. Assumes nothing.
 use mathlib.Core.Path.{ap}
-use borrow.Author.Rules.{rules}
 use Rattle.cipher.specs.declared.Aes.{Aes}
 use Rattle.cipher.specs.declared.TreeHash.{TreeHash}
 use Rattle.cipher.specs.TreeHash.{fixed_key}

@@ -1,5 +1,4 @@
 -- `cipher::ccr::hash_in` meets its contract: its calls put hash_ccr together. Assumes nothing.
-use borrow.Author.Rules.{rules}
 use Rattle.cipher.specs.Ccr.{hash_ccr}
 use Rattle.cipher.proofs.ccr.hash_in.Goals as goal
 

@@ -2,7 +2,6 @@
 use mathlib.Core.Path.{ap, ◌∙◌}
 use mathlib.Core.List.{List}
 use Prim.Native.Nat.{ℕ}
-use borrow.Author.Rules.{rules}
 use Rattle.words.specs.Bytes.{word_at}
 use Rattle.cipher.specs.Fips197.{cipher}
 use Rattle.cipher.specs.Ccr.{pi}

@@ -1,6 +1,5 @@
 -- `cipher::columns::from_bytes` meets its contract, column by column. Assumes nothing.
 use mathlib.Core.Path.{◌∙◌}
-use borrow.Author.Rules.{rules}
 use Rattle.words.specs.Cells.{tab}
 use Rattle.cipher.proofs.Schedule.{tab_self}
 use Rattle.cipher.proofs.BlockSteps.{joined_columns}

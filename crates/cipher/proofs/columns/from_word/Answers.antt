@@ -1,5 +1,4 @@
 -- `cipher::columns::from_word` meets its contract, half by half. Assumes nothing.
-use borrow.Author.Rules.{rules}
 use Rattle.words.specs.Bytes.{word_bytes}
 use Rattle.cipher.proofs.Packed.{halves-word}
 use Rattle.cipher.proofs.columns.from_word.Goals as goal

@@ -1,6 +1,5 @@
 -- `cipher::columns::key_column` meets its contract: a column of four bytes that stand side by side. Assumes nothing.
 use native.Mathlib.Nat.{add-zero}
-use borrow.Author.Rules.{rules}
 use Rattle.words.specs.Cells.{tab}
 use Rattle.cipher.proofs.columns.key_column.Goals as goal
 

@@ -1,8 +1,5 @@
 -- `cipher::columns::mix_column` meets its contract, by the laws of packed bytes. Assumes nothing.
 use mathlib.Core.Path.{ap, ◌∙◌}
-use mathlib.Core.List.{List}
-use Prim.Native.Nat.{ℕ}
-use borrow.Author.Rules.{rules}
 use Rattle.cipher.specs.Fips197.{rot_word}
 use Rattle.cipher.proofs.Packed.{packed_mix}
 use Rattle.cipher.proofs.columns.mix_column.Goals as goal

@@ -1,6 +1,5 @@
 -- `cipher::columns::split` meets its contract: it is `le_bytes 4`, opened. Assumes nothing.
 use mathlib.Core.Path.{refl}
-use borrow.Author.Rules.{rules}
 use Rattle.words.specs.Bytes.{le_bytes}
 use Rattle.cipher.proofs.columns.split.Goals as goal
 

@@ -1,6 +1,5 @@
 -- `cipher::columns::sub_column` meets its contract, byte by byte. Assumes nothing.
 use mathlib.Core.Path.{◌∙◌}
-use borrow.Author.Rules.{rules}
 use Rattle.words.specs.Bytes.{le_bytes}
 use Rattle.words.specs.Cells.{tab}
 use Rattle.cipher.proofs.columns.sub_column.Goals as goal

@@ -1,5 +1,4 @@
 -- `cipher::columns::to_bytes` meets its contract, column by column. Assumes nothing.
-use borrow.Author.Rules.{rules}
 use Rattle.words.specs.Bytes.{le_bytes}
 use Rattle.cipher.proofs.columns.to_bytes.Goals as goal
 

@@ -1,12 +1,8 @@
 -- `cipher::expand::begin` meets its contract: the bytes below i are the key's. The measure is what is left of 16.
 -- Assumes nothing.
 use mathlib.Core.Path.{◌≡◌, refl, sym, ap, ◌∙◌}
-use mathlib.Core.List.{List}
-use Prim.Native.Nat.{ℕ, ◌-◌, ◌≤◌}
 use native.Mathlib.Omega.{arith}
-use lib.ListN.{get_or, take}
-use borrow.Author.Rules.{rules}
-use Rattle.words.specs.Bytes.{put}
+use lib.ListN.{take}
 use Rattle.words.specs.Cells.{tab}
 use Rattle.words.proofs.ByteLaws.{put_nil, take_put}
 use Rattle.words.proofs.CellLaws.{put-tab, length-tab}

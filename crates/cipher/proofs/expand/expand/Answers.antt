@@ -1,11 +1,10 @@
 -- `cipher::expand::expand` meets its contract: after n turns the bytes below 4 n + 16 are the key and n words more. The measure
 -- is what is left of 40 words. Assumes nothing.
 use mathlib.Core.Path.{◌≡◌, sym, ap, ap₂, ◌∙◌}
-use Prim.Native.Nat.{ℕ, ◌+◌, ◌*◌, ◌-◌, ◌≤◌}
+use Prim.Native.Nat.{ℕ, ◌+◌, ◌*◌}
 use native.Mathlib.Omega.{arith}
-use lib.ListN.{length, take, length-set}
+use lib.ListN.{take, length-set}
 use lib.Seq.{take_all}
-use borrow.Author.Rules.{rules}
 use Rattle.cipher.specs.Fips197.{expanded, key_expansion}
 use Rattle.cipher.proofs.Schedule.{expanded-none, expanded_more}
 use Rattle.cipher.proofs.expand.expand.Goals as goal

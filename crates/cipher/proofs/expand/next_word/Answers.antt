@@ -2,7 +2,6 @@
 use mathlib.Core.Path.{ap, ◌∙◌}
 use lib.Bits.{bit_xor}
 use borrow.Author.Tests.{eq-eqb, ne_eqb}
-use borrow.Author.Rules.{rules}
 use Rattle.cipher.specs.Fips197.{rot_word, sub_word, next_word}
 use Rattle.cipher.proofs.Packed.{packed_add}
 use Rattle.cipher.proofs.BlockSteps.{diagonal_same}

@@ -6,9 +6,8 @@ use Prim.Native.Nat.{ℕ, ◌-◌, ◌<◌}
 use native.Mathlib.Omega.{arith}
 use lib.Dec.{eqb, eqb→eq}
 use lib.ListN.{get_or}
-use borrow.Author.Rules.{rules}
 use Rattle.cipher.specs.Fips197.{power}
-use Rattle.cipher.proofs.EveryByte.{below, at-below}
+use Rattle.cipher.proofs.EveryByte.{at-below}
 use Rattle.cipher.proofs.expand.rcon.Goals as goal
 
 powers : List ℕ

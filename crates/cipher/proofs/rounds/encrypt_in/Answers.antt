@@ -2,7 +2,6 @@
 use mathlib.Core.Path.{ap, ◌∙◌}
 use mathlib.Core.List.{List}
 use Prim.Native.Nat.{ℕ}
-use borrow.Author.Rules.{rules}
 use Rattle.cipher.specs.Fips197.{rounds, last_round, cipher}
 use Rattle.cipher.proofs.rounds.encrypt_in.Goals as goal
 

@@ -1,6 +1,5 @@
 -- `cipher::rounds::first` meets its contract, column by column. Assumes nothing.
 use mathlib.Core.Path.{refl, ◌∙◌}
-use borrow.Author.Rules.{rules}
 use Rattle.cipher.proofs.Packed.{packed_add}
 use Rattle.cipher.proofs.BlockSteps.{joined_columns, first-columns}
 use Rattle.cipher.proofs.rounds.first.Goals as goal

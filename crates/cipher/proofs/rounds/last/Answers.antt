@@ -1,6 +1,5 @@
 -- `cipher::rounds::last` meets its contract, column by column. Assumes nothing.
 use mathlib.Core.Path.{◌∙◌}
-use borrow.Author.Rules.{rules}
 use Rattle.cipher.proofs.BlockSteps.{joined_columns, last-columns}
 use Rattle.cipher.proofs.rounds.last.Goals as goal
 

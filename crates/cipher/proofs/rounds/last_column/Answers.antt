@@ -1,5 +1,4 @@
 -- `cipher::rounds::last_column` meets its contract: the substituted column, and its key bytes added. Assumes nothing.
-use borrow.Author.Rules.{rules}
 use Rattle.cipher.proofs.Packed.{packed_add}
 use Rattle.cipher.proofs.rounds.last_column.Goals as goal
 

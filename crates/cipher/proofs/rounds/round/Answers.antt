@@ -1,6 +1,5 @@
 -- `cipher::rounds::round` meets its contract, column by column. Assumes nothing.
 use mathlib.Core.Path.{◌∙◌}
-use borrow.Author.Rules.{rules}
 use Rattle.cipher.proofs.BlockSteps.{joined_columns, round_columns}
 use Rattle.cipher.proofs.rounds.round.Goals as goal
 

@@ -1,6 +1,5 @@
 -- `cipher::rounds::round_column` meets its contract: the substituted column, mixed, and its key bytes added. Assumes nothing.
 use mathlib.Core.Path.{ap, ◌∙◌}
-use borrow.Author.Rules.{rules}
 use Rattle.cipher.specs.Fips197.{mix_column}
 use Rattle.cipher.proofs.Packed.{packed_add}
 use Rattle.cipher.proofs.rounds.round_column.Goals as goal

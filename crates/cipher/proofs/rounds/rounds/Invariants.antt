@@ -1,12 +1,9 @@
 -- `cipher::rounds::rounds` meets its contract: after n turns the block has gone through the rounds 1 to n. The measure is what
 -- is left of nine. Assumes nothing.
-use mathlib.Core.Path.{◌≡◌, ap, ◌∙◌}
-use Prim.Native.Nat.{ℕ, ◌-◌, ◌≤◌}
-use native.Mathlib.Omega.{arith}
-use borrow.Author.Rules.{rules}
+use mathlib.Core.Path.{◌≡◌}
+use Prim.Native.Nat.{◌-◌, ◌≤◌}
 use Rattle.cipher.specs.Fips197.{rounds}
 use Rattle.cipher.specs.Columns.{block_of}
-use Rattle.cipher.proofs.Schedule.{rounds-none, rounds_next}
 use Rattle.cipher.proofs.rounds.rounds.Given as goal
 
 abbrev pub invariant-loop-n : goal.invariant-loop-n

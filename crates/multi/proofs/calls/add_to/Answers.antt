@@ -1,9 +1,5 @@
 -- `multi::calls::add_to` meets its contract: what is refused early changes nothing; else all cells are swept. Assumes nothing.
 use mathlib.Core.Path.{◌≡◌, sym, ◌∙◌}
-use mathlib.Core.Bool.{Bool}
-use mathlib.Core.List.{List}
-use Prim.Native.Nat.{ℕ}
-use borrow.Author.Rules.{rules}
 use lib.ListN.{length}
 use Rattle.words.specs.Cells.{added}
 use Rattle.words.specs.Refusals.{first}

@@ -1,10 +1,6 @@
 -- `multi::calls::evaluate_domain` meets its contract: what is refused early changes nothing; else all cells are swept.
 -- Assumes nothing.
 use mathlib.Core.Path.{◌≡◌, sym, ◌∙◌}
-use mathlib.Core.Bool.{Bool}
-use mathlib.Core.List.{List}
-use Prim.Native.Nat.{ℕ}
-use borrow.Author.Rules.{rules}
 use lib.ListN.{length}
 use Rattle.words.specs.Bytes.{put}
 use Rattle.words.specs.Cells.{tab}

@@ -1,11 +1,10 @@
 -- `multi::image::hash_keys` meets its contract. The invariant: what is left of the 48 bytes, stored behind those that are,
 -- gives all of them. The measure is how many are left. Assumes nothing.
-use mathlib.Core.Path.{◌≡◌, refl, sym, ◌∙◌}
-use Prim.Native.Nat.{◌+◌, ◌-◌, ◌≤◌}
+use mathlib.Core.Path.{refl, sym, ◌∙◌}
+use Prim.Native.Nat.{◌+◌}
 use native.Mathlib.Omega.{arith}
 use borrow.Author.Rules.{rules}
-use lib.ListN.{length, drop, length-set}
-use Rattle.words.specs.Bytes.{put}
+use lib.ListN.{length-set}
 use Rattle.words.proofs.ByteLaws.{put_whole}
 use Rattle.multi.specs.Image.{keys_in}
 use Rattle.multi.proofs.CopyLaws.{copy_step, copy_done}

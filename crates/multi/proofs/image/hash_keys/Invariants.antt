@@ -1,15 +1,10 @@
 -- `multi::image::hash_keys` meets its contract. The invariant: what is left of the 48 bytes, stored behind those that are,
 -- gives all of them. The measure is how many are left. Assumes nothing.
-use mathlib.Core.Path.{◌≡◌, refl, sym, ◌∙◌}
-use Prim.Native.Nat.{◌+◌, ◌-◌, ◌≤◌}
-use native.Mathlib.Omega.{arith}
-use borrow.Author.Rules.{rules}
-use lib.ListN.{length, drop, length-set}
+use mathlib.Core.Path.{◌≡◌}
+use Prim.Native.Nat.{◌-◌, ◌≤◌}
+use lib.ListN.{length, drop}
 use Rattle.words.specs.Bytes.{put}
-use Rattle.words.proofs.ByteLaws.{put_whole}
 use Rattle.multi.specs.Image.{keys_in}
-use Rattle.multi.proofs.CopyLaws.{copy_step, copy_done}
-use Rattle.multi.proofs.ImageLaws.{keys-long, keys-at}
 use Rattle.multi.proofs.image.hash_keys.Given as goal
 
 abbrev pub invariant-loop-i : goal.invariant-loop-i

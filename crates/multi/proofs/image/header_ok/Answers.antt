@@ -1,5 +1,4 @@
 -- `multi::image::header_ok` meets its contract: the fields are read, and the tests are made on numbers. Assumes nothing.
-use borrow.Author.Rules.{rules}
 use Rattle.multi.proofs.image.header_ok.Goals as goal
 
 pub returns : goal.returns

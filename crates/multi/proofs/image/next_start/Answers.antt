@@ -2,7 +2,6 @@
 -- there is a record there or not. Assumes nothing.
 use mathlib.Core.Path.{◌≡◌, sym, ap, ◌∙◌}
 use native.Mathlib.Omega.{arith}
-use borrow.Author.Rules.{rules}
 use lib.ListN.{length}
 use Rattle.words.specs.Limits.{largest_single}
 use Rattle.single.specs.Record as single

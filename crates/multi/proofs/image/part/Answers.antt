@@ -1,6 +1,5 @@
 -- `multi::image::part` meets its contract: an entry of 0 is no record, any other says where it begins. Assumes nothing.
 use mathlib.Core.Path.{sym, ap, ◌∙◌}
-use borrow.Author.Rules.{rules}
 use Rattle.single.specs.Record as single
 use Rattle.multi.proofs.RecordPlaces.{bucket_part-none, bucket_part_there}
 use Rattle.multi.proofs.image.part.Goals as goal

@@ -2,7 +2,6 @@
 -- Assumes nothing.
 use mathlib.Core.Path.{sym, ap, ◌∙◌}
 use native.Mathlib.Omega.{arith}
-use borrow.Author.Rules.{rules}
 use Rattle.single.specs.Record as single
 use Rattle.multi.proofs.RecordPlaces.{part_past, part_short, part_cut}
 use Rattle.multi.proofs.image.part_at.Goals as goal

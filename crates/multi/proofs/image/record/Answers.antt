@@ -1,6 +1,5 @@
 -- `multi::image::record` meets its contract: nothing where the call refuses, else the bucket's part. Assumes nothing.
 use mathlib.Core.Path.{sym, ◌∙◌}
-use borrow.Author.Rules.{rules}
 use Rattle.words.proofs.TestLaws.{succeeded, refused}
 use Rattle.multi.specs.Image.{record_given}
 use Rattle.multi.proofs.ImageLaws.{handed}

@@ -1,7 +1,6 @@
 -- `multi::image::record_place` meets its contract: zeros where the call refuses, else the entry and the part's length.
 -- Assumes nothing.
 use mathlib.Core.Path.{sym, ◌∙◌}
-use borrow.Author.Rules.{rules}
 use Rattle.words.proofs.TestLaws.{succeeded, refused}
 use Rattle.multi.specs.Image.{place_of}
 use Rattle.multi.proofs.ImageLaws.{handed}

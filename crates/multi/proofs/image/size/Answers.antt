@@ -1,6 +1,5 @@
 -- `multi::image::size` meets its contract. Assumes nothing.
 use mathlib.Core.Path.{ap, ◌∙◌}
-use borrow.Author.Rules.{rules}
 use Rattle.single.specs.Record as single
 use Rattle.multi.specs.Image.{bucket_size}
 use Rattle.multi.proofs.image.size.Goals as goal

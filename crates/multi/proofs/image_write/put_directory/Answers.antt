@@ -2,13 +2,13 @@
 -- the record of bucket c would begin. The measure is how many entries are left. Assumes nothing.
 use mathlib.Core.Path.{◌≡◌, refl, sym, ap, ◌∙◌}
 use mathlib.Core.List.{List}
-use Prim.Native.Nat.{ℕ, ◌+◌, ◌*◌, ◌-◌, ◌≤◌}
+use Prim.Native.Nat.{ℕ, ◌+◌, ◌*◌, ◌≤◌}
 use native.Mathlib.Omega.{arith}
 use borrow.Author.Rules.{rules}
 use lib.ListN.{length}
 use Rattle.words.specs.Bytes.{le_bytes, put, stored}
 use Rattle.words.proofs.ByteLaws.{put_nil, length-put, length-le_bytes, stored_next}
-use Rattle.multi.specs.Image.{record_start, entry_for, directory_bytes, lengths_by}
+use Rattle.multi.specs.Image.{entry_for, directory_bytes, lengths_by}
 use Rattle.multi.proofs.RecordPlaces.{record_start-first, record_start_next, record_start_le, record_start-least}
 use Rattle.multi.proofs.ImageBytes.{length_directory}
 use Rattle.multi.proofs.ImageWriteLaws.{entry_of, directory_next}

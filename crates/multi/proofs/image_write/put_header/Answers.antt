@@ -1,6 +1,5 @@
 -- `multi::image_write::put_header` meets its contract: the fields are written one behind the other. Assumes nothing.
 use native.Mathlib.Omega.{arith}
-use borrow.Author.Rules.{rules}
 use Rattle.multi.proofs.ImageWriteLaws.{fields_room, header_written}
 use Rattle.multi.proofs.image_write.put_header.Goals as goal
 

@@ -1,11 +1,10 @@
 -- `multi::image_write::put_keys` meets its contract. The invariant: what is left of the keys, put behind what was, gives all of
 -- them. The measure is how many bytes are left. Assumes nothing.
-use mathlib.Core.Path.{◌≡◌, refl, sym, ◌∙◌}
-use Prim.Native.Nat.{◌+◌, ◌-◌, ◌≤◌}
+use mathlib.Core.Path.{refl, sym, ◌∙◌}
+use Prim.Native.Nat.{◌+◌}
 use native.Mathlib.Omega.{arith}
 use borrow.Author.Rules.{rules}
-use lib.ListN.{length, drop, length-set}
-use Rattle.words.specs.Bytes.{put}
+use lib.ListN.{length-set}
 use Rattle.multi.proofs.CopyLaws.{copy_step, copy_done}
 use Rattle.multi.proofs.image_write.put_keys.Goals as goal
 

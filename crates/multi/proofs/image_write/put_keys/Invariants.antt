@@ -1,12 +1,9 @@
 -- `multi::image_write::put_keys` meets its contract. The invariant: what is left of the keys, put behind what was, gives all of
 -- them. The measure is how many bytes are left. Assumes nothing.
-use mathlib.Core.Path.{◌≡◌, refl, sym, ◌∙◌}
+use mathlib.Core.Path.{◌≡◌}
 use Prim.Native.Nat.{◌+◌, ◌-◌, ◌≤◌}
-use native.Mathlib.Omega.{arith}
-use borrow.Author.Rules.{rules}
-use lib.ListN.{length, drop, length-set}
+use lib.ListN.{length, drop}
 use Rattle.words.specs.Bytes.{put}
-use Rattle.multi.proofs.CopyLaws.{copy_step, copy_done}
 use Rattle.multi.proofs.image_write.put_keys.Given as goal
 
 abbrev pub invariant-loop-i : goal.invariant-loop-i

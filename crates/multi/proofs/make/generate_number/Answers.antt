@@ -1,10 +1,8 @@
 -- `multi::make::generate_number` meets its contract: the tests in their order; `past-k` says that the first k fail, so the rest
 -- decide. Assumes nothing.
 use mathlib.Core.Path.{◌≡◌, sym, ap, ◌∙◌}
-use mathlib.Core.Bool.{Bool, not}
-use mathlib.Core.List.{List, []}
-use Prim.Native.Nat.{ℕ}
-use borrow.Author.Rules.{rules}
+use mathlib.Core.Bool.{not}
+use mathlib.Core.List.{[]}
 use borrow.Author.Tests.{eq-eqb, ne_eqb, lt-ltb, le-ltb}
 use lib.ListN.{drop}
 use Rattle.words.specs.Refusals.{first}

@@ -1,10 +1,9 @@
 -- `multi::make::make_in` meets its contract: laying out gives up, or the images are written from what it laid out.
 -- Assumes nothing.
 use mathlib.Core.Path.{◌≡◌, ap, ◌∙◌}
-use mathlib.Core.List.{List, []}
+use mathlib.Core.List.{[]}
 use Prim.Native.Nat.{ℕ, ◌<◌}
 use native.Mathlib.Omega.{arith}
-use borrow.Author.Rules.{rules}
 use lib.ListN.{length}
 use Rattle.cipher.specs.TreeHash.{tree_hash}
 use Rattle.bucket_hash.specs.BucketHash.{bucket_of, bucket_by}

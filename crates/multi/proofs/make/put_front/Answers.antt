@@ -1,7 +1,6 @@
 -- `multi::make::put_front` meets its contract: the directory stands right behind the header. Assumes nothing.
 use Prim.Native.Nat.{◌+◌, ◌*◌, ◌≤◌}
 use native.Mathlib.Omega.{arith}
-use borrow.Author.Rules.{rules}
 use lib.ListN.{length}
 use Rattle.words.proofs.ByteLaws.{put_next}
 use Rattle.multi.specs.Image.{lengths_by}

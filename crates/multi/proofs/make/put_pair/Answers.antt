@@ -1,14 +1,9 @@
 -- `multi::make::put_pair` meets its contract: no entries, no bytes; else the two keys are stored where there is room.
 -- Assumes nothing.
-use mathlib.Core.Path.{◌≡◌, sym, ap, ◌∙◌}
-use mathlib.Core.Bool.{true, false}
-use borrow.Author.Rules.{rules}
+use mathlib.Core.Path.{sym, ap, ◌∙◌}
 use Rattle.words.specs.Bytes.{put}
 use Rattle.words.proofs.ByteLaws.{put_nil}
-use Rattle.cipher.specs.TreeHash.{hash_by}
 use Rattle.single.specs.declared.pairs.KeyPair.{KeyPair}
-use Rattle.single.specs.Rules.{made}
-use Rattle.single.specs.Keys.{key_of}
 use Rattle.multi.proofs.RecordWrites.{by_none, stored_by, keys_are}
 use Rattle.multi.proofs.make.put_pair.Goals as goal
 

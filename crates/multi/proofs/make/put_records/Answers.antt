@@ -1,17 +1,14 @@
 -- `multi::make::put_records` meets its contract. The invariant is `Laying`: the records of the buckets before c are written.
 -- The measure is how many buckets are left. Assumes nothing.
 use mathlib.Core.Path.{ap, ◌∙◌}
-use mathlib.Core.List.{List}
-use Prim.Native.Nat.{ℕ, ◌+◌, ◌*◌, ◌-◌, ◌≤◌, ◌<◌}
+use Prim.Native.Nat.{◌+◌, ◌*◌, ◌≤◌, ◌<◌}
 use native.Mathlib.Omega.{arith}
-use borrow.Author.Rules.{rules}
 use lib.ListN.{length, get_or}
-use Rattle.cipher.specs.TreeHash.{hash_by}
 use Rattle.single.specs.Record as single
 use Rattle.multi.specs.Rules.{words_for}
 use Rattle.multi.specs.Image.{lengths_by}
 use Rattle.multi.proofs.RecordPlaces.{record_start-least}
-use Rattle.multi.proofs.LayingLaws.{Laying, laying_none, laying_all, laying_room0, laying_room1, laying_more}
+use Rattle.multi.proofs.LayingLaws.{laying_none, laying_all, laying_room0, laying_room1, laying_more}
 use Rattle.multi.proofs.make.put_records.Goals as goal
 
 pub loop-c-init : goal.loop-c-init

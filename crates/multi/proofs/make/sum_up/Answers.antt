@@ -1,8 +1,7 @@
 -- `multi::make::sum_up` meets its contract. The invariant: both sums are those of the sizes before c, and small. The measure is
 -- how many sizes are left. Assumes nothing.
 use mathlib.Core.Path.{◌≡◌, refl, sym, ap, ap₂, ◌∙◌}
-use mathlib.Core.List.{List}
-use Prim.Native.Nat.{ℕ, ◌+◌, ◌*◌, ◌-◌, ◌≤◌}
+use Prim.Native.Nat.{ℕ, ◌+◌, ◌≤◌}
 use native.Mathlib.Omega.{arith}
 use borrow.Author.Rules.{rules}
 use lib.ListN.{length, get_or}
@@ -51,9 +50,9 @@ returns c =
 
 pub overflow_add-used : goal.overflow_add-used
 overflow_add-used c = omega (
-      arith,
-      c.words_for-used.ensures,
-      c.loop-c.invariant.3,
-      c.loop-c.invariant.0,
-      c.requires,
-    )
+  arith,
+  c.words_for-used.ensures,
+  c.loop-c.invariant.3,
+  c.loop-c.invariant.0,
+  c.requires,
+)

@@ -1,19 +1,10 @@
 -- `multi::make::sum_up` meets its contract. The invariant: both sums are those of the sizes before c, and small. The measure is
 -- how many sizes are left. Assumes nothing.
-use mathlib.Core.Path.{◌≡◌, refl, sym, ap, ap₂, ◌∙◌}
-use mathlib.Core.List.{List}
-use Prim.Native.Nat.{ℕ, ◌+◌, ◌*◌, ◌-◌, ◌≤◌}
-use native.Mathlib.Omega.{arith}
-use borrow.Author.Rules.{rules}
-use lib.ListN.{length, get_or}
-use Rattle.words.specs.Cells.{sum_to}
-use Rattle.single.specs.Record as single
-use Rattle.multi.specs.Rules.{words_for}
+use mathlib.Core.Path.{◌≡◌}
+use Prim.Native.Nat.{◌+◌, ◌*◌, ◌-◌, ◌≤◌}
+use lib.ListN.{length}
 use Rattle.multi.specs.Image.{record_start, lengths_by}
-use Rattle.multi.specs.declared.make.Totals.{Totals}
 use Rattle.multi.specs.Making.{used_by}
-use Rattle.multi.proofs.RecordPlaces.{record_start-first, record_start_next}
-use Rattle.multi.proofs.RecordWrites.{used_by_next, length_most}
 use Rattle.multi.proofs.make.sum_up.Given as goal
 
 abbrev pub invariant-loop-c : goal.invariant-loop-c

@@ -1,6 +1,5 @@
 -- `multi::make::value_of` meets its contract. Assumes nothing.
 use mathlib.Core.Path.{sym, ◌∙◌}
-use borrow.Author.Rules.{rules}
 use Rattle.multi.proofs.RecordWrites.{value_none, value-some}
 use Rattle.multi.proofs.make.value_of.Goals as goal
 

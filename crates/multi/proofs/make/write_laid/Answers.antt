@@ -1,10 +1,7 @@
 -- `multi::make::write_laid` meets its contract: the sizes are summed up, and what they ask is held against what there is; then
 -- each image is its header and directory, and the records behind them. Assumes nothing.
 use mathlib.Core.Path.{◌≡◌, sym, ap, ◌∙◌}
-use mathlib.Core.List.{List}
-use Prim.Native.Nat.{ℕ}
 use native.Mathlib.Omega.{arith}
-use borrow.Author.Rules.{rules}
 use lib.ListN.{length}
 use Rattle.words.specs.Refusals.{first}
 use Rattle.cipher.specs.TreeHash.{tree_hash}

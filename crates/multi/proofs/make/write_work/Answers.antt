@@ -1,13 +1,11 @@
 -- `multi::make::write_work` meets its contract: the slice is cut in three. Assumes nothing.
-use mathlib.Core.Path.{sym, ap, ap₂, ◌∙◌, subst}
+use mathlib.Core.Path.{sym, ap, ap₂, ◌∙◌}
 use mathlib.Core.List.{List}
-use Prim.Native.Nat.{ℕ, ◌+◌, ◌≤◌}
+use Prim.Native.Nat.{ℕ, ◌+◌}
 use native.Mathlib.Nat.{add-sub_cancel_left}
 use native.Mathlib.Omega.{arith}
-use borrow.Author.Rules.{rules}
-use lib.ListN.{length, take, drop, get_or, length-take}
+use lib.ListN.{take, drop, length-take}
 use lib.Seq.{length-take-le}
-use Rattle.words.specs.Limits.{largest_single, most_buckets}
 use Rattle.cipher.specs.TreeHash.{tree_hash}
 use Rattle.multi.specs.Making.{write_laid}
 use Rattle.multi.proofs.make.write_work.Goals as goal

@@ -2,7 +2,6 @@
 use mathlib.Core.Path.{ap, ◌∙◌}
 use mathlib.Core.List.{List}
 use Prim.Native.Nat.{ℕ}
-use borrow.Author.Rules.{rules}
 use Rattle.cipher.specs.TreeHash.{hash_by}
 use Rattle.single.specs.Bare.{record_share}
 use Rattle.multi.proofs.RecordReads.{share_there}

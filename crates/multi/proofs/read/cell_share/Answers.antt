@@ -1,5 +1,4 @@
 -- `multi::read::cell_share` meets its contract: three shares, each of a record that is there. Assumes nothing.
-use borrow.Author.Rules.{rules}
 use Rattle.multi.specs.Rules.{cell_share}
 use Rattle.multi.proofs.read.cell_share.Goals as goal
 

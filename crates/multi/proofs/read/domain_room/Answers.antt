@@ -1,6 +1,5 @@
 -- `multi::read::domain_room` meets its contract: in an image that passes the numbers are within their limits. Assumes nothing.
 use native.Mathlib.Omega.{arith}
-use borrow.Author.Rules.{rules}
 use Rattle.multi.proofs.ImageLaws.{well_formed}
 use Rattle.multi.proofs.read.domain_room.Goals as goal
 

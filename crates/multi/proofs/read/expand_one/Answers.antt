@@ -4,7 +4,6 @@ use mathlib.Core.Path.{sym, ap, ◌∙◌}
 use mathlib.Core.List.{List}
 use Prim.Native.Nat.{ℕ, ◌+◌, ◌*◌, ◌-◌}
 use native.Mathlib.Omega.{arith}
-use borrow.Author.Rules.{rules}
 use borrow.Rule.Slice.PartMut.{mid_of}
 use Rattle.words.specs.Bytes.{put}
 use Rattle.words.proofs.ByteLaws.{put_nil}

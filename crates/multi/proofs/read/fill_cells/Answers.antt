@@ -2,7 +2,6 @@
 -- its share, added to it or written in front. Assumes nothing.
 use mathlib.Core.List.{List}
 use Prim.Native.Nat.{ℕ, ◌≤◌}
-use borrow.Author.Rules.{rules}
 use lib.ListN.{length}
 use Rattle.cipher.specs.TreeHash.{tree_hash}
 use Rattle.bucket_hash.specs.BucketHash.{bucket_by}

@@ -2,11 +2,7 @@
 -- cell's three records are there. Assumes nothing.
 use mathlib.Core.Path.{◌≡◌, sym, ◌∙◌}
 use mathlib.Core.Bool.{true}
-use mathlib.Core.List.{List}
-use Prim.Native.Nat.{ℕ}
 use native.Mathlib.Omega.{arith}
-use borrow.Author.Rules.{rules}
-use borrow.Author.Tests.{not-true, not-false}
 use lib.ListN.{length, take}
 use Rattle.cipher.specs.TreeHash.{tree_hash}
 use Rattle.bucket_hash.specs.BucketHash.{bucket_by}

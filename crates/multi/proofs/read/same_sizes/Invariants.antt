@@ -1,14 +1,11 @@
 -- `multi::read::same_sizes` meets its contract. The invariant: the sizes before c agree. The measure is how many are left.
 -- Assumes nothing.
-use mathlib.Core.Path.{◌≡◌, sym, ◌∙◌}
+use mathlib.Core.Path.{◌≡◌}
 use mathlib.Core.Bool.{true}
 use Prim.Native.Nat.{◌-◌, ◌≤◌}
-use native.Mathlib.Omega.{arith}
-use borrow.Author.Rules.{rules}
 use lib.ListN.{length, get_or}
 use Rattle.multi.specs.Image.{bucket_size}
 use Rattle.multi.specs.Calls.{alike}
-use Rattle.multi.proofs.CallLaws.{alike-none, alike_next, alike_fails}
 use Rattle.multi.proofs.read.same_sizes.Given as goal
 
 abbrev pub invariant-loop-c : goal.invariant-loop-c

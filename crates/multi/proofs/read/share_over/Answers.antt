@@ -1,6 +1,5 @@
 -- `multi::read::share_over` meets its contract: a sum modulo 2 ^ 64 of a sum modulo 2 ^ 64. Assumes nothing.
 use native.Mathlib.Nat.{add-mod-mod}
-use borrow.Author.Rules.{rules}
 use Rattle.words.specs.Ring.{add}
 use Rattle.placement.specs.Shares.{each_once}
 use Rattle.multi.specs.Rules.{share_over}

@@ -1,7 +1,6 @@
 -- `multi::read::sweep` meets its contract: the cells are filled by the image's own bucket functions, and then the scratch that
 -- was needed is zeroed. Assumes nothing.
 use native.Mathlib.Omega.{arith}
-use borrow.Author.Rules.{rules}
 use Rattle.cipher.specs.TreeHash.{tree_hash}
 use Rattle.multi.proofs.ImageLaws.{well_formed}
 use Rattle.multi.proofs.ReadLaws.{functions_in_lem}

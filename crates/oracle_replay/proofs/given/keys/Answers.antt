@@ -1,6 +1,4 @@
 -- `oracle_replay::given::keys` is safe and ends. The measure is what is left. Assumes nothing.
-use Prim.Native.Nat.{◌-◌}
-use borrow.Author.Rules.{rules}
 use Rattle.oracle_replay.proofs.given.keys.Goals as goal
 
 pub loop-i-init : goal.loop-i-init

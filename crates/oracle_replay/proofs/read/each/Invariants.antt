@@ -1,6 +1,5 @@
 -- `oracle_replay::read::each` is safe and ends. The measure is what is left. Assumes nothing.
 use Prim.Native.Nat.{◌-◌}
-use borrow.Author.Rules.{rules}
 use Rattle.oracle_replay.proofs.read.each.Given as goal
 
 abbrev pub invariant-loop-i : goal.invariant-loop-i

@@ -1,9 +1,7 @@
 -- `placement::Hand::step` meets its contract: its stores are one step of the walk that the slice shows. Assumes nothing.
 use mathlib.Core.Path.{◌≡◌, refl}
-use mathlib.Core.Logic.{⊎_elim}
 use Prim.Native.Nat.{◌+◌, ◌<◌, ◌≤◌, min}
 use native.Mathlib.Omega.{arith}
-use borrow.Author.Rules.{rules}
 use lib.ListN.{length, get_or, length-set}
 use Rattle.bucket_hash.proofs.BucketsBelow.{bucket_by_lt}
 use Rattle.placement.specs.Shares.{at_points}
@@ -80,7 +78,7 @@ unfolding at_points
 returns c =
     let low : c.bucket_at-b.result < c.args.buckets = rw c.bucket_at-b.ensures (bucket_by_lt _ _ _ _ c.requires.0) in
     let evicted : c.if-held-ne0.evictions ≡ c.args.self.evictions + min 1 (get_or c.args.work.now c.bucket_at-b.result 0) =
-        elim c.if-held-ne0.branch [ then-held-ne0 w ↦ omega (arith, w.if-held-ne0.true, w.evictions-is) | else-held-ne0 w ↦ omega (arith, w.if-held-ne0.false, w.evictions-is) ] in
+    elim c.if-held-ne0.branch [ then-held-ne0 w ↦ omega (arith, w.if-held-ne0.true, w.evictions-is) | else-held-ne0 w ↦ omega (arith, w.if-held-ne0.false, w.evictions-is) ] in
     record {
       shown = stepped _ _ _ _ _ _ _ _ _ c.requires.3 c.requires.6 low c.bucket_at-b.ensures
           c.next_fn.ensures evicted;

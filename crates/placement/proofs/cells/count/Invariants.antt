@@ -1,13 +1,8 @@
 -- `placement::cells::count` meets its contract. The invariant: the cells below x are counted, and what is no counter is as it
 -- was. The measure is the cells that are left. Assumes nothing.
-use mathlib.Core.Path.{ap, ◌∙◌}
-use Prim.Native.Nat.{ℕ, ◌-◌, ◌<◌, ◌≤◌}
-use native.Mathlib.Omega.{arith}
-use borrow.Author.Rules.{rules}
+use Prim.Native.Nat.{◌-◌, ◌≤◌}
 use Rattle.bucket_hash.specs.BucketHash.{bucket_by}
-use Rattle.bucket_hash.proofs.BucketsBelow.{bucket_by_lt}
-use Rattle.placement.specs.Passes.{entered}
-use Rattle.placement.proofs.CountLaws.{Passing, passing_start, passing_next, passing_done, counter_of}
+use Rattle.placement.proofs.CountLaws.{Passing}
 use Rattle.placement.proofs.cells.count.Given as goal
 
 abbrev pub invariant-loop-x : goal.invariant-loop-x

@@ -1,6 +1,5 @@
 -- `placement::cells::count_one` meets its contract: one store. Assumes nothing.
 use mathlib.Core.Path.{refl}
-use borrow.Author.Rules.{rules}
 use Rattle.placement.specs.Passes.{bump}
 use Rattle.placement.proofs.cells.count_one.Goals as goal
 

@@ -3,7 +3,6 @@ use mathlib.Core.Path.{◌≡◌}
 use mathlib.Core.List.{List}
 use Prim.Native.Nat.{ℕ, ◌+◌, ◌^◌}
 use native.Mathlib.Omega.{arith}
-use borrow.Author.Rules.{rules}
 use Rattle.placement.specs.Passes.{bump, entered}
 use Rattle.placement.proofs.CountLaws.{counter_bump, counter_up}
 use Rattle.placement.proofs.cells.enter.Goals as goal

@@ -1,6 +1,5 @@
 -- `placement::cells::limits_number` meets its contract: each test that is passed takes a row off. Assumes nothing.
 use mathlib.Core.Path.{◌≡◌, sym, ◌∙◌}
-use Prim.Native.Nat.{ℕ}
 use borrow.Author.Tests.{lt-ltb, le-ltb}
 use lib.ListN.{drop}
 use Rattle.words.specs.Refusals.{first}

@@ -1,15 +1,10 @@
 -- `placement::cells::sum_up` meets its contract. The invariant: the sums before the counters passed are in front, and `sum` is
 -- the next one. The measure is the counters that are left. Assumes nothing.
-use mathlib.Core.Path.{◌≡◌, refl, sym, ap, ◌∙◌}
-use mathlib.Core.List.{List}
-use Prim.Native.Nat.{ℕ, ◌+◌, ◌-◌, ◌<◌, ◌≤◌}
-use native.Mathlib.Omega.{arith}
-use lib.ListN.{length, get_or, set, length-set}
-use lib.Seq.{get_or-set_other}
+use mathlib.Core.Path.{◌≡◌}
+use Prim.Native.Nat.{◌-◌, ◌≤◌}
+use lib.ListN.{length}
 use Rattle.words.specs.Bytes.{put}
-use Rattle.words.specs.Cells.{tab, sum_to}
-use Rattle.words.proofs.ByteLaws.{put_nil, get_or-put}
-use Rattle.words.proofs.CellLaws.{length-tab, put-tab, sum_to_next, sum_mono}
+use Rattle.words.specs.Cells.{tab}
 use Rattle.placement.specs.Passes.{sum_before}
 use Rattle.placement.proofs.cells.sum_up.Given as goal
 

@@ -1,5 +1,4 @@
 -- `placement::cells::three` meets its contract: one bucket by each function. Assumes nothing.
-use borrow.Author.Rules.{rules}
 use Rattle.placement.proofs.cells.three.Goals as goal
 
 pub returns : goal.returns

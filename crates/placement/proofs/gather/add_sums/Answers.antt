@@ -2,9 +2,8 @@
 -- other cells of the table are as they came. The measure is the cells that are left. Assumes nothing.
 use mathlib.Core.Path.{◌≡◌, refl, sym, ap, ap₂, ◌∙◌}
 use mathlib.Core.List.{List}
-use Prim.Native.Nat.{ℕ, ◌-◌, ◌<◌, ◌≤◌}
+use Prim.Native.Nat.{ℕ, ◌<◌}
 use native.Mathlib.Omega.{arith}
-use borrow.Author.Rules.{rules}
 use lib.ListN.{length, get_or, length-set}
 use Rattle.words.specs.Bytes.{put}
 use Rattle.words.specs.Ring.{add}
@@ -14,7 +13,7 @@ use Rattle.words.proofs.CellLaws.{length-tab, put-tab}
 use Rattle.bucket_hash.specs.BucketHash.{bucket_by}
 use Rattle.bucket_hash.proofs.BucketsBelow.{bucket_by_lt}
 use Rattle.placement.specs.Passes.{gathered}
-use Rattle.placement.proofs.CountLaws.{Passing, passing_start, passing_next, passing_done}
+use Rattle.placement.proofs.CountLaws.{passing_start, passing_next, passing_done}
 use Rattle.placement.proofs.GatherLaws.{gathered-at}
 use Rattle.placement.proofs.gather.add_sums.Invariants.{plus_sum}
 use Rattle.placement.proofs.gather.add_sums.Goals as goal

@@ -1,21 +1,15 @@
 -- `placement::gather::add_sums` meets its contract. The invariant: the cells below x are counted and their sums added, the
 -- other cells of the table are as they came. The measure is the cells that are left. Assumes nothing.
-use mathlib.Core.Path.{◌≡◌, refl, sym, ap, ap₂, ◌∙◌}
+use mathlib.Core.Path.{◌≡◌}
 use mathlib.Core.List.{List}
-use Prim.Native.Nat.{ℕ, ◌-◌, ◌<◌, ◌≤◌}
-use native.Mathlib.Omega.{arith}
-use borrow.Author.Rules.{rules}
-use lib.ListN.{length, get_or, length-set}
+use Prim.Native.Nat.{ℕ, ◌-◌, ◌≤◌}
+use lib.ListN.{length, get_or}
 use Rattle.words.specs.Bytes.{put}
 use Rattle.words.specs.Ring.{add}
-use Rattle.words.specs.Cells.{tab, added}
-use Rattle.words.proofs.ByteLaws.{put_nil, put_whole, get_or-put}
-use Rattle.words.proofs.CellLaws.{length-tab, put-tab}
+use Rattle.words.specs.Cells.{tab}
 use Rattle.bucket_hash.specs.BucketHash.{bucket_by}
-use Rattle.bucket_hash.proofs.BucketsBelow.{bucket_by_lt}
 use Rattle.placement.specs.Passes.{gathered}
-use Rattle.placement.proofs.CountLaws.{Passing, passing_start, passing_next, passing_done}
-use Rattle.placement.proofs.GatherLaws.{gathered-at}
+use Rattle.placement.proofs.CountLaws.{Passing}
 use Rattle.placement.proofs.gather.add_sums.Given as goal
 
 -- a cell of the table and its sum

@@ -1,5 +1,4 @@
 -- `placement::gather::cell_sum` meets its contract: what each bucket gives, each bucket once. Assumes nothing.
-use borrow.Author.Rules.{rules}
 use Rattle.placement.proofs.GatherLaws.{sum_three}
 use Rattle.placement.proofs.gather.cell_sum.Goals as goal
 

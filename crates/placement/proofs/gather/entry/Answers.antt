@@ -1,7 +1,6 @@
 -- `placement::gather::entry` meets its contract: an entry that the slice does not have is 0. Assumes nothing.
 use mathlib.Core.Path.{refl}
 use native.Mathlib.Omega.{arith}
-use borrow.Author.Rules.{rules}
 use Rattle.placement.specs.Passes.{entry_at}
 use Rattle.placement.proofs.GatherLaws.{entry-none}
 use Rattle.placement.proofs.gather.entry.Goals as goal

@@ -1,7 +1,6 @@
 -- `placement::gather::gather` meets its contract: the counters are cleared, and the sums written. Assumes nothing.
 use Prim.Native.Nat.{ℕ, ◌<◌}
 use native.Mathlib.Omega.{arith}
-use borrow.Author.Rules.{rules}
 use borrow.Author.Tests.{ltb-false}
 use Rattle.bucket_hash.specs.BucketHash.{bucket_by}
 use Rattle.bucket_hash.proofs.BucketsBelow.{bucket_by_lt}

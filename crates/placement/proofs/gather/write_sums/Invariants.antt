@@ -1,18 +1,13 @@
 -- `placement::gather::write_sums` meets its contract. The invariant: the cells below x are counted and their sums written. The
 -- measure is the cells that are left. Assumes nothing.
-use mathlib.Core.Path.{◌≡◌, refl, sym, ap, ◌∙◌}
-use Prim.Native.Nat.{ℕ, ◌-◌, ◌<◌, ◌≤◌}
-use native.Mathlib.Omega.{arith}
-use lib.ListN.{length, length-set}
+use mathlib.Core.Path.{◌≡◌}
+use Prim.Native.Nat.{◌-◌, ◌≤◌}
+use lib.ListN.{length}
 use Rattle.words.specs.Bytes.{put}
 use Rattle.words.specs.Cells.{tab}
-use Rattle.words.proofs.ByteLaws.{put_nil}
-use Rattle.words.proofs.CellLaws.{put-tab}
 use Rattle.bucket_hash.specs.BucketHash.{bucket_by}
-use Rattle.bucket_hash.proofs.BucketsBelow.{bucket_by_lt}
 use Rattle.placement.specs.Passes.{gathered}
-use Rattle.placement.proofs.CountLaws.{Passing, passing_start, passing_next, passing_done}
-use Rattle.placement.proofs.GatherLaws.{gathered-at}
+use Rattle.placement.proofs.CountLaws.{Passing}
 use Rattle.placement.proofs.gather.write_sums.Given as goal
 
 abbrev pub invariant-loop-x : goal.invariant-loop-x

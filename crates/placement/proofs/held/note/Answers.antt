@@ -1,7 +1,6 @@
 -- `placement::held::note` meets its contract: the label says whether the bucket holds the cell. Assumes nothing.
 use Prim.Native.Nat.{◌-◌, ◌<◌}
 use native.Mathlib.Omega.{arith}
-use borrow.Author.Rules.{rules}
 use lib.ListN.{length, get_or}
 use Rattle.placement.proofs.NoteLaws.{noted-none, noted_not, noted_yes, whole}
 use Rattle.placement.proofs.held.note.Goals as goal

@@ -1,9 +1,8 @@
 -- `placement::held::sizes_and_positions` meets its contract. The invariant: the cells below x are counted and noted. The
 -- measure is the cells that are left. Assumes nothing.
 use mathlib.Core.Path.{ap, ◌∙◌}
-use Prim.Native.Nat.{ℕ, ◌-◌, ◌<◌, ◌≤◌}
+use Prim.Native.Nat.{ℕ, ◌<◌}
 use native.Mathlib.Omega.{arith}
-use borrow.Author.Rules.{rules}
 use Rattle.bucket_hash.specs.BucketHash.{bucket_by}
 use Rattle.bucket_hash.proofs.BucketsBelow.{bucket_by_lt}
 use Rattle.placement.specs.Passes.{entered, noted_in}
@@ -51,8 +50,7 @@ loop-x-preserved c =
     let low : (k x : ℕ) → k < 3 → bucket_by c.args.hashes c.args.buckets k x < c.args.buckets = λ k x l. bucket_by_lt _ _ k x c.requires.0 in
     let noted_here : let a = c.args in
     Noting (bucket_by a.hashes a.buckets) a.buckets a.s a.points.now a.work.now c.loop-x.x 3 c.note_three.new.work = noting_three _ _ low _ _ _ _ c.requires.2 _ _ _ c.loop-x.invariant.1
-    (c.note_three.ensures ∙ ap (noted_in _ _ _ _ _) c.three-t.ensures) in
-    (
+    (c.note_three.ensures ∙ ap (noted_in _ _ _ _ _) c.three-t.ensures) in (
       omega (arith, c.loop-x-test.true),
       noting_enter _ _ low _ _ _ _ c.requires.2 _ _ _ noted_here
           (c.enter.ensures ∙ ap (entered _ _) c.three-t.ensures),

@@ -1,11 +1,7 @@
 -- `placement::points::rising` meets its contract. The invariant: what is left of the list, from the next lowest point on, rises
 -- as the whole does. The measure is what is left. Assumes nothing.
-use mathlib.Core.Path.{◌≡◌, refl, sym, ◌∙◌}
-use Prim.Native.Nat.{◌-◌, ◌≤◌}
+use mathlib.Core.Path.{refl, sym, ◌∙◌}
 use native.Mathlib.Omega.{arith}
-use borrow.Author.Rules.{rules}
-use lib.ListN.{length, drop}
-use Rattle.placement.specs.Shares.{rising_from}
 use Rattle.placement.proofs.PointLaws.{rising-low, rising-high, rising_next, rising_end}
 use Rattle.placement.proofs.points.rising.Goals as goal
 
@@ -20,12 +16,11 @@ pub overflow_add-low : goal.overflow_add-low
 overflow_add-low c = omega (arith, c.if-p-domain.false, c.ranges.domain)
 
 pub loop-i-preserved : goal.loop-i-preserved
-loop-i-preserved c =
-    (
-      omega arith,
-      sym (rising_next _ _ _ _ c.loop-i-test.true c.if-p-low.false c.if-p-domain.false) ∙
-          c.loop-i.invariant.1,
-    )
+loop-i-preserved c = (
+  omega arith,
+  sym (rising_next _ _ _ _ c.loop-i-test.true c.if-p-low.false c.if-p-domain.false) ∙
+      c.loop-i.invariant.1,
+)
 
 pub returns : goal.returns
 returns c = sym (rising_end _ _ _ _ c.loop-i-test.false) ∙ c.loop-i.invariant.1

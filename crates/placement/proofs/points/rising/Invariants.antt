@@ -1,12 +1,9 @@
 -- `placement::points::rising` meets its contract. The invariant: what is left of the list, from the next lowest point on, rises
 -- as the whole does. The measure is what is left. Assumes nothing.
-use mathlib.Core.Path.{◌≡◌, refl, sym, ◌∙◌}
+use mathlib.Core.Path.{◌≡◌}
 use Prim.Native.Nat.{◌-◌, ◌≤◌}
-use native.Mathlib.Omega.{arith}
-use borrow.Author.Rules.{rules}
 use lib.ListN.{length, drop}
 use Rattle.placement.specs.Shares.{rising_from}
-use Rattle.placement.proofs.PointLaws.{rising-low, rising-high, rising_next, rising_end}
 use Rattle.placement.proofs.points.rising.Given as goal
 
 abbrev pub invariant-loop-i : goal.invariant-loop-i

@@ -1,13 +1,9 @@
 -- `placement::walk::insert` meets its contract. The invariant: what is left of the tries comes to what they all come to. The
 -- measure is the tries that are left. Assumes nothing.
 use mathlib.Core.Path.{sym, ◌∙◌}
-use Prim.Native.Nat.{◌+◌, ◌-◌}
 use native.Mathlib.Omega.{arith}
-use lib.ListN.{length}
-use Rattle.bucket_hash.specs.BucketHash.{bucket_by}
-use Rattle.placement.specs.Shares.{at_points}
 use Rattle.placement.proofs.SliceLaws.{sound-length}
-use Rattle.placement.proofs.TurnLaws.{Trying, trying_start, trying_done, trying_out, trying_step}
+use Rattle.placement.proofs.TurnLaws.{trying_start, trying_done, trying_out, trying_step}
 use Rattle.placement.proofs.walk.insert.Goals as goal
 
 pub loop-hand-init : goal.loop-hand-init

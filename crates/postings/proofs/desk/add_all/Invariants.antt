@@ -3,7 +3,6 @@
 use mathlib.Core.Path.{◌≡◌}
 use Prim.Native.Nat.{◌-◌, ◌≤◌}
 use lib.ListN.{length}
-use borrow.Author.Rules.{rules}
 use Rattle.postings.proofs.desk.add_all.Given as goal
 
 abbrev pub invariant-loop-i : goal.invariant-loop-i

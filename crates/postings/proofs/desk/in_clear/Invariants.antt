@@ -1,7 +1,6 @@
 -- `postings::desk::in_clear` is safe and ends. The invariant: k is at most 6. The measure is what is left of 6.
 -- Assumes nothing.
 use Prim.Native.Nat.{◌-◌, ◌≤◌}
-use borrow.Author.Rules.{rules}
 use Rattle.postings.proofs.desk.in_clear.Given as goal
 
 abbrev pub invariant-loop-k : goal.invariant-loop-k

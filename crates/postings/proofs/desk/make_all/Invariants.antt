@@ -1,7 +1,6 @@
 -- `postings::desk::make_all` is safe and ends. The invariant: k is at most 9. The measure is what is left of 9.
 -- Assumes nothing.
 use Prim.Native.Nat.{◌-◌, ◌≤◌}
-use borrow.Author.Rules.{rules}
 use Rattle.postings.proofs.desk.make_all.Given as goal
 
 abbrev pub invariant-loop-k : goal.invariant-loop-k

@@ -1,7 +1,6 @@
 -- `postings::partners::partner` is safe and ends. The invariant: there are so many steps. The measure is what is left of them.
 -- Assumes nothing.
 use Prim.Native.Nat.{◌-◌, ◌≤◌}
-use borrow.Author.Rules.{rules}
 use Rattle.postings.proofs.partners.partner.Given as goal
 
 abbrev pub invariant-loop-i : goal.invariant-loop-i

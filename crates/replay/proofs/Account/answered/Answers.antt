@@ -1,5 +1,4 @@
 -- `replay::Account::answered` meets its contract. Assumes nothing.
-use borrow.Author.Rules.{rules}
 use Rattle.replay.proofs.Account.answered.Goals as goal
 
 pub returns : goal.returns

@@ -1,5 +1,4 @@
 -- `replay::Account::bytes` meets its contract. Assumes nothing.
-use borrow.Author.Rules.{rules}
 use Rattle.replay.proofs.ListLaws.{compared}
 use Rattle.replay.proofs.Account.bytes.Goals as goal
 

@@ -1,5 +1,4 @@
 -- `replay::Account::differs` meets its contract. Assumes nothing.
-use borrow.Author.Rules.{rules}
 use Rattle.replay.proofs.ListLaws.{differing-first, differing_again}
 use Rattle.replay.proofs.Account.differs.Goals as goal
 

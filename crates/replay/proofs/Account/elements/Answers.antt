@@ -1,5 +1,4 @@
 -- `replay::Account::elements` meets its contract. Assumes nothing.
-use borrow.Author.Rules.{rules}
 use Rattle.replay.specs.Lists.{wanted_cell}
 use Rattle.replay.proofs.ListLaws.{compared}
 use Rattle.replay.proofs.Account.elements.Goals as goal

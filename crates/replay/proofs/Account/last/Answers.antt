@@ -1,7 +1,6 @@
 -- `replay::Account::last` meets its contract. Assumes nothing.
 use mathlib.Core.Path.{refl}
 use mathlib.Core.Logic.{inl, inr}
-use borrow.Author.Rules.{rules}
 use Rattle.replay.proofs.Account.last.Goals as goal
 
 pub returns-then-f-ne8 : goal.returns-then-f-ne8

@@ -1,5 +1,4 @@
 -- `replay::Account::next_call` meets its contract. Assumes nothing.
-use borrow.Author.Rules.{rules}
 use Rattle.replay.proofs.Account.next_call.Goals as goal
 
 pub returns : goal.returns

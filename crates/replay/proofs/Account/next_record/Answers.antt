@@ -1,5 +1,4 @@
 -- `replay::Account::next_record` meets its contract. Assumes nothing.
-use borrow.Author.Rules.{rules}
 use Rattle.replay.proofs.Account.next_record.Goals as goal
 
 pub returns : goal.returns

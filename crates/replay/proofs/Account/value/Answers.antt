@@ -1,6 +1,5 @@
 -- `replay::Account::value` meets its contract. Assumes nothing.
 use mathlib.Core.Path.{◌∙◌}
-use borrow.Author.Rules.{rules}
 use Rattle.replay.proofs.ListLaws.{valued_same, valued_other}
 use Rattle.replay.proofs.Account.value.Goals as goal
 

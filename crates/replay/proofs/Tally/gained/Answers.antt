@@ -1,5 +1,4 @@
 -- `replay::Tally::gained` meets its contract: the three counts are rewritten one after the other. Assumes nothing.
-use borrow.Author.Rules.{rules}
 use Rattle.replay.proofs.ListLaws.{tallied_same, tallied_other}
 use Rattle.replay.proofs.Tally.gained.Goals as goal
 

@@ -1,7 +1,6 @@
 -- `single::bare::record_share` meets its contract: the key that the record is read into holds that record. Assumes nothing.
 use mathlib.Core.Path.{◌≡◌, sym, ap, ◌∙◌}
 use Prim.Native.Nat.{ℕ}
-use borrow.Author.Rules.{rules}
 use Rattle.words.proofs.TestLaws.{succeeded, refused}
 use Rattle.cipher.specs.TreeHash.{hash_by}
 use Rattle.single.specs.declared.SingleKey.{SingleKey}

@@ -2,7 +2,6 @@
 -- added from there, and the scratch is zeroed. Assumes nothing.
 use mathlib.Core.Path.{◌≡◌, sym, ◌∙◌}
 use native.Mathlib.Omega.{arith}
-use borrow.Author.Rules.{rules}
 use lib.ListN.{length}
 use Rattle.cipher.specs.TreeHash.{tree_hash}
 use Rattle.single.specs.Calls.{add_to_number, add_to}

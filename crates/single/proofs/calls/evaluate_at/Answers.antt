@@ -5,8 +5,6 @@ use mathlib.Core.Bool.{true}
 use mathlib.Core.List.{List}
 use Prim.Native.Nat.{ℕ}
 use native.Mathlib.Omega.{arith}
-use borrow.Author.Rules.{rules}
-use borrow.Author.Tests.{not-true, not-false}
 use Rattle.cipher.specs.TreeHash.{tree_hash}
 use Rattle.single.specs.Image.{side_in, image_ok}
 use Rattle.single.specs.Bare.{record_share}

@@ -2,7 +2,6 @@
 -- scratch and written out from there, and the scratch is zeroed. Assumes nothing.
 use mathlib.Core.Path.{◌≡◌, sym, ◌∙◌}
 use native.Mathlib.Omega.{arith}
-use borrow.Author.Rules.{rules}
 use lib.ListN.{length}
 use Rattle.cipher.specs.TreeHash.{tree_hash}
 use Rattle.single.specs.Calls.{evaluate_domain_number, evaluate_domain}

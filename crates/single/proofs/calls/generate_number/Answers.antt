@@ -1,9 +1,8 @@
 -- `single::calls::generate_number` meets its contract: the refusals in their order; `past-k` says that the first k do not
 -- apply. Assumes nothing.
 use mathlib.Core.Path.{◌≡◌, sym, ◌∙◌}
-use Prim.Native.Nat.{ℕ, ◌/◌}
+use Prim.Native.Nat.{◌/◌}
 use native.Mathlib.Omega.{arith}
-use borrow.Author.Rules.{rules}
 use borrow.Author.Tests.{lt-ltb, le-ltb, lt-leb, le-leb}
 use lib.ListN.{drop}
 use Rattle.words.specs.Refusals.{first}

@@ -6,7 +6,7 @@ use native.Mathlib.Omega.{arith}
 use borrow.Author.Rules.{rules}
 use Rattle.cipher.specs.TreeHash.{hash_by}
 use Rattle.single.proofs.KeyLaws.{sound-few}
-use Rattle.single.proofs.Layers.{Layered, layered_none, layered_more, layered_all, top_fits}
+use Rattle.single.proofs.Layers.{layered_none, layered_more, layered_all, top_fits}
 use Rattle.single.proofs.domain.expand_inner.Goals as goal
 
 pub loop-j-init : goal.loop-j-init

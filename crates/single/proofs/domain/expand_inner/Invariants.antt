@@ -1,12 +1,8 @@
 -- `single::domain::expand_inner` meets its contract. The invariant is `Layered`: layer j stands in the slice. The measure is
 -- the number of layers that are left. Assumes nothing.
-use Prim.Native.Nat.{◌+◌, ◌-◌, ◌/◌, ◌^◌, ◌≤◌}
-use lib.Pow.{shr_le}
-use native.Mathlib.Omega.{arith}
-use borrow.Author.Rules.{rules}
+use Prim.Native.Nat.{◌-◌}
 use Rattle.cipher.specs.TreeHash.{hash_by}
-use Rattle.single.proofs.KeyLaws.{sound-few}
-use Rattle.single.proofs.Layers.{Layered, layered_none, layered_more, layered_all, top_fits}
+use Rattle.single.proofs.Layers.{Layered}
 use Rattle.single.proofs.domain.expand_inner.Given as goal
 
 abbrev pub invariant-loop-j : goal.invariant-loop-j

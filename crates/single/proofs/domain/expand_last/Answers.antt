@@ -8,7 +8,7 @@ use Rattle.words.specs.declared.Word.{Word}
 use Rattle.cipher.specs.TreeHash.{hash_by}
 use Rattle.single.specs.Keys.{worth}
 use Rattle.single.specs.Nodes.{low_word}
-use Rattle.single.proofs.GrowLaws.{Growing, growing_none, growing_more, growing_all}
+use Rattle.single.proofs.GrowLaws.{growing_none, growing_more, growing_all}
 use Rattle.single.proofs.domain.expand_last.Goals as goal
 
 -- the share is made of the node that was read

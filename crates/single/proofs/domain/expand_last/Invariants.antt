@@ -1,14 +1,9 @@
 -- `single::domain::expand_last` meets its contract. The invariant is `Growing`: the nodes from i on are grown. The measure is
 -- i. A node is read, and the shares of its cells are stored in its place. Assumes nothing.
-use mathlib.Core.Path.{◌≡◌}
-use mathlib.Core.Bool.{Bool}
-use Prim.Native.Nat.{ℕ}
-use borrow.Author.Rules.{rules}
-use Rattle.words.specs.declared.Word.{Word}
 use Rattle.cipher.specs.TreeHash.{hash_by}
 use Rattle.single.specs.Keys.{worth}
 use Rattle.single.specs.Nodes.{low_word}
-use Rattle.single.proofs.GrowLaws.{Growing, growing_none, growing_more, growing_all}
+use Rattle.single.proofs.GrowLaws.{Growing}
 use Rattle.single.proofs.domain.expand_last.Given as goal
 
 abbrev pub invariant-loop-i : goal.invariant-loop-i

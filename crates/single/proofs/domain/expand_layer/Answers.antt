@@ -7,7 +7,7 @@ use Rattle.words.specs.declared.Word.{Word}
 use Rattle.words.specs.Word.{◌⊕◌, ◌when◌, odd}
 use Rattle.cipher.specs.TreeHash.{hash_by}
 use Rattle.single.specs.Rules as rule
-use Rattle.single.proofs.GrowLaws.{Growing, growing_none, growing_more, growing_all}
+use Rattle.single.proofs.GrowLaws.{growing_none, growing_more, growing_all}
 use Rattle.single.proofs.domain.expand_layer.Goals as goal
 
 -- a level by way of the hash that was made

@@ -1,13 +1,8 @@
 -- `single::domain::expand_layer` meets its contract. The invariant is `Growing`: the nodes from i on are grown. The measure is
 -- i. A node is read, hashed once, and its children are stored from that one hash. Assumes nothing.
-use mathlib.Core.Path.{◌≡◌}
-use mathlib.Core.Bool.{Bool}
-use borrow.Author.Rules.{rules}
-use Rattle.words.specs.declared.Word.{Word}
-use Rattle.words.specs.Word.{◌⊕◌, ◌when◌, odd}
 use Rattle.cipher.specs.TreeHash.{hash_by}
 use Rattle.single.specs.Rules as rule
-use Rattle.single.proofs.GrowLaws.{Growing, growing_none, growing_more, growing_all}
+use Rattle.single.proofs.GrowLaws.{Growing}
 use Rattle.single.proofs.domain.expand_layer.Given as goal
 
 abbrev pub invariant-loop-i : goal.invariant-loop-i

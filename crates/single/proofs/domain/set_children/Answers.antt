@@ -1,7 +1,6 @@
 -- `single::domain::set_children` meets its contract: the left child is stored, and the other right behind it where there is a
 -- place. Assumes nothing.
 use Rattle.single.proofs.GrowLaws.{children-one, children_two}
-use borrow.Author.Rules.{rules}
 use Rattle.single.proofs.domain.set_children.Goals as goal
 
 pub returns-then-i-next : goal.returns-then-i-next

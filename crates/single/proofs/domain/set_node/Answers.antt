@@ -3,7 +3,6 @@ use Rattle.words.proofs.ByteLaws.{put_cons, put_nil}
 use lib.ListN.{length-set}
 use native.Mathlib.Omega.{arith}
 use mathlib.Core.Path.{sym, ◌∙◌}
-use borrow.Author.Rules.{rules}
 use Rattle.single.proofs.domain.set_node.Goals as goal
 
 pub returns : goal.returns

@@ -5,7 +5,6 @@ use native.Mathlib.Omega.{arith}
 use Rattle.cipher.specs.TreeHash.{hash_by}
 use Rattle.single.specs.Keys.{record_of}
 use Rattle.single.proofs.Layers.{spread-one, spread-all}
-use borrow.Author.Rules.{rules}
 use Rattle.single.proofs.domain.spread_shares.Goals as goal
 
 pub returns-then-k-eq1 : goal.returns-then-k-eq1

@@ -2,7 +2,6 @@
 use mathlib.Core.Path.{ap, ◌∙◌}
 use Prim.Native.Nat.{ℕ, ◌+◌}
 use native.Mathlib.Omega.{arith}
-use borrow.Author.Rules.{rules}
 use Rattle.single.specs.Record.{record_length}
 use Rattle.single.specs.Image.{image_length}
 use Rattle.single.proofs.RecordLaws.{count_most, length_for_lem}

@@ -1,7 +1,6 @@
 -- `single::image::side_in` meets its contract. Assumes nothing.
 use mathlib.Core.Path.{ap}
 use Prim.Native.Nat.{ℕ}
-use borrow.Author.Rules.{rules}
 use lib.Dec.{eqb}
 use Rattle.single.specs.Image.{side_in}
 use Rattle.single.proofs.image.side_in.Goals as goal

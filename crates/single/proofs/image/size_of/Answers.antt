@@ -1,6 +1,5 @@
 -- `single::image::size_of` meets its contract: the record begins behind eight bytes. Assumes nothing.
 use mathlib.Core.Path.{sym, ◌∙◌}
-use borrow.Author.Rules.{rules}
 use Rattle.single.proofs.CallLaws.{size-at}
 use Rattle.single.proofs.image.size_of.Goals as goal
 

@@ -1,7 +1,6 @@
 -- `single::make::finish` meets its contract: what its calls gave is the last level of the rules. Assumes nothing.
 use Rattle.cipher.specs.TreeHash.{hash_by}
 use Rattle.single.proofs.MakeLaws.{ended}
-use borrow.Author.Rules.{rules}
 use Rattle.single.proofs.make.finish.Goals as goal
 
 pub returns : goal.returns

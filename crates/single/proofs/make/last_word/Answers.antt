@@ -1,6 +1,5 @@
 -- `single::make::last_word` meets its contract: its calls put the rule of the last word together. Assumes nothing.
 use Rattle.single.specs.Rules as rule
-use borrow.Author.Rules.{rules}
 use Rattle.single.proofs.make.last_word.Goals as goal
 
 pub returns : goal.returns

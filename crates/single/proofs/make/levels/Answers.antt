@@ -8,7 +8,6 @@ use Rattle.words.specs.Height.{height}
 use Rattle.words.proofs.HeightLaws.{in_limits}
 use Rattle.single.proofs.RecordLaws.{tree-height}
 use Rattle.single.proofs.MakeLaws.{height_pos}
-use borrow.Author.Rules.{rules}
 use Rattle.single.proofs.make.levels.Goals as goal
 
 pub overflow_sub-result : goal.overflow_sub-result

@@ -4,7 +4,6 @@ use Rattle.words.specs.Word.{is_odd}
 use Rattle.words.proofs.HeightIsLeast.{height_le}
 use Rattle.cipher.specs.TreeHash.{hash_by}
 use Rattle.single.proofs.MakeLaws.{pair_tall}
-use borrow.Author.Rules.{rules}
 use Rattle.single.proofs.make.make_tall.Goals as goal
 
 pub walk-p-requires : goal.walk-p-requires

@@ -1,6 +1,5 @@
 -- `single::make::make_tiny` meets its contract: one word, shared between the two last words. Assumes nothing.
 use Rattle.single.proofs.MakeLaws.{pair_tiny}
-use borrow.Author.Rules.{rules}
 use Rattle.single.proofs.make.make_tiny.Goals as goal
 
 pub returns : goal.returns

@@ -1,6 +1,5 @@
 -- `single::make::split` meets its contract: its calls put both hashes of one side together. Assumes nothing.
 use Rattle.single.specs.Rules as rule
-use borrow.Author.Rules.{rules}
 use Rattle.single.proofs.make.split.Goals as goal
 
 pub returns : goal.returns

@@ -1,9 +1,8 @@
 -- `single::make::walk` meets its contract. The invariant is `Walking`: the words of the first i levels are stored, and the rest
 -- from the seeds in hand gives the whole. The measure is the number of levels left. Assumes nothing.
 use Prim.Native.Nat.{◌-◌}
-use borrow.Author.Rules.{rules}
 use Rattle.cipher.specs.TreeHash.{hash_by}
-use Rattle.single.proofs.MakeLaws.{Walking, walking_none, walking_more, walking_all}
+use Rattle.single.proofs.MakeLaws.{Walking}
 use Rattle.single.proofs.make.walk.Given as goal
 
 abbrev pub invariant-loop-i : goal.invariant-loop-i

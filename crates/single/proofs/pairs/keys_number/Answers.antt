@@ -1,6 +1,5 @@
 -- `single::pairs::keys_number` meets its contract: Domain, then Point. Assumes nothing.
-use mathlib.Core.Path.{◌≡◌, sym, ◌∙◌}
-use borrow.Author.Rules.{rules}
+use mathlib.Core.Path.{sym, ◌∙◌}
 use borrow.Author.Tests.{lt-ltb, le-ltb, lt-leb, le-leb}
 use Rattle.words.proofs.TestLaws.{first-none, first_hit, first_miss}
 use Rattle.single.specs.Pairs.{keys_tests, keys_number}

@@ -1,9 +1,7 @@
 -- `single::pairs::make_keys` meets its contract: a refusal gives keys with no bit set, and behind it the pair of one cell or of more
 -- is made. Assumes nothing.
 use mathlib.Core.Path.{◌≡◌, sym, ◌∙◌}
-use Prim.Native.Nat.{ℕ}
 use native.Mathlib.Omega.{arith}
-use borrow.Author.Rules.{rules}
 use borrow.Author.Tests.{eq-eqb}
 use Rattle.words.proofs.TestLaws.{refused}
 use Rattle.cipher.specs.TreeHash.{hash_by}

@@ -1,8 +1,8 @@
 -- `single::record::get_words` meets its contract. The invariant: the columns hold the words passed, and zeros behind them. The
 -- measure is the words left. Assumes nothing.
 use mathlib.Core.Path.{◌≡◌, refl, ap, ap₂}
-use mathlib.Core.List.{List, map}
-use Prim.Native.Nat.{ℕ, ◌-◌, ◌≤◌}
+use mathlib.Core.List.{List}
+use Prim.Native.Nat.{ℕ}
 use native.Mathlib.Omega.{arith}
 use borrow.Author.Rules.{rules}
 use Rattle.words.specs.declared.Word.{Word}

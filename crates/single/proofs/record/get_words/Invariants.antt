@@ -1,15 +1,11 @@
 -- `single::record::get_words` meets its contract. The invariant: the columns hold the words passed, and zeros behind them. The
 -- measure is the words left. Assumes nothing.
-use mathlib.Core.Path.{◌≡◌, refl, ap, ap₂}
-use mathlib.Core.List.{List, map}
-use Prim.Native.Nat.{ℕ, ◌-◌, ◌≤◌}
-use native.Mathlib.Omega.{arith}
-use borrow.Author.Rules.{rules}
+use mathlib.Core.Path.{◌≡◌}
+use mathlib.Core.List.{map}
+use Prim.Native.Nat.{◌-◌, ◌≤◌}
 use Rattle.words.specs.declared.Word.{Word}
 use Rattle.single.specs.Keys.{column}
-use Rattle.single.specs.declared.record.Columns.{Columns}
 use Rattle.single.specs.Record.{words_in}
-use Rattle.single.proofs.ColumnLaws.{length-words_in, column_turn}
 use Rattle.single.proofs.record.get_words.Given as goal
 
 abbrev pub invariant-loop-i : goal.invariant-loop-i

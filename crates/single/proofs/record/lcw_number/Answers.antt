@@ -1,6 +1,5 @@
 -- `single::record::lcw_number` meets its contract: a number for each bit, and their sum. Assumes nothing.
 use native.Mathlib.Omega.{arith}
-use borrow.Author.Rules.{rules}
 use Rattle.single.specs.Record.{lcw_number}
 use Rattle.single.proofs.RecordLaws.{lcw_most}
 use Rattle.single.proofs.record.lcw_number.Goals as goal

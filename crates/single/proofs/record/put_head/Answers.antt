@@ -3,7 +3,6 @@ use mathlib.Core.Path.{◌≡◌}
 use mathlib.Core.List.{◌++◌}
 use Prim.Native.Nat.{◌+◌}
 use native.Mathlib.Omega.{arith}
-use borrow.Author.Rules.{rules}
 use lib.ListN.{length, length-append}
 use Rattle.words.specs.Bytes.{le_bytes, word_bytes}
 use Rattle.words.proofs.ByteLaws.{length-le_bytes, length-word_bytes, stored-first, stored_next}

@@ -1,16 +1,11 @@
 -- `single::record::put_words` meets its contract. The invariant: the words that are left, written, give what is promised. The
 -- measure is how many are left. Assumes nothing.
-use mathlib.Core.Path.{◌≡◌, refl, sym, ◌∙◌}
+use mathlib.Core.Path.{◌≡◌}
 use Prim.Native.Nat.{◌+◌, ◌*◌, ◌-◌, ◌≤◌}
-use native.Mathlib.Nat.{add-zero, sub-zero}
-use native.Mathlib.Omega.{arith}
-use borrow.Author.Rules.{rules}
 use lib.ListN.{length}
 use Rattle.words.specs.Bytes.{put}
-use Rattle.words.proofs.ByteLaws.{put_nil}
 use Rattle.single.specs.Keys.{words_from}
 use Rattle.single.specs.Record.{words_bytes}
-use Rattle.single.proofs.ColumnLaws.{words_turn}
 use Rattle.single.proofs.record.put_words.Given as goal
 
 abbrev pub invariant-loop-i : goal.invariant-loop-i

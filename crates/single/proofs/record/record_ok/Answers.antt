@@ -1,10 +1,7 @@
 -- `single::record::record_ok` meets its contract: the tests in their order; `past-k` says that the first k hold, so the rest
 -- decide. Assumes nothing.
 use mathlib.Core.Path.{◌≡◌, sym, ap, ◌∙◌}
-use mathlib.Core.List.{List}
-use Prim.Native.Nat.{ℕ}
 use native.Mathlib.Omega.{arith}
-use borrow.Author.Rules.{rules}
 use borrow.Author.Tests.{eq-eqb, ne_eqb, le-leb, lt-leb}
 use lib.ListN.{drop}
 use Rattle.words.specs.Height.{height_number}

@@ -2,12 +2,11 @@
 -- measure is what is left of the table. Assumes nothing.
 use mathlib.Core.Path.{◌≡◌, refl, sym, ap, ◌∙◌}
 use mathlib.Core.List.{List}
-use Prim.Native.Nat.{ℕ, ◌*◌, ◌-◌, ◌≤◌}
+use Prim.Native.Nat.{ℕ, ◌*◌}
 use native.Mathlib.Omega.{arith}
 use borrow.Author.Rules.{rules}
 use lib.ListN.{length, get_or, length-set}
 use Rattle.words.specs.Ring.{add}
-use Rattle.words.specs.Bytes.{put}
 use Rattle.words.specs.Cells.{tab, added}
 use Rattle.words.proofs.ByteLaws.{put_nil, get_or-put, put_whole}
 use Rattle.words.proofs.CellLaws.{put-tab, length-tab}

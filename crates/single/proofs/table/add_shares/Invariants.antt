@@ -1,16 +1,11 @@
 -- `single::table::add_shares` meets its contract. The invariant: the first x cells are added to, the others as they were. The
 -- measure is what is left of the table. Assumes nothing.
-use mathlib.Core.Path.{◌≡◌, refl, sym, ap, ◌∙◌}
-use mathlib.Core.List.{List}
-use Prim.Native.Nat.{ℕ, ◌*◌, ◌-◌, ◌≤◌}
-use native.Mathlib.Omega.{arith}
-use borrow.Author.Rules.{rules}
-use lib.ListN.{length, get_or, length-set}
+use mathlib.Core.Path.{◌≡◌}
+use Prim.Native.Nat.{◌*◌, ◌-◌, ◌≤◌}
+use lib.ListN.{length, get_or}
 use Rattle.words.specs.Ring.{add}
 use Rattle.words.specs.Bytes.{put}
-use Rattle.words.specs.Cells.{tab, added}
-use Rattle.words.proofs.ByteLaws.{put_nil, get_or-put, put_whole}
-use Rattle.words.proofs.CellLaws.{put-tab, length-tab}
+use Rattle.words.specs.Cells.{tab}
 use Rattle.single.proofs.table.add_shares.Given as goal
 
 abbrev pub invariant-loop-x : goal.invariant-loop-x

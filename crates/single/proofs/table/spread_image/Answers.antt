@@ -1,9 +1,8 @@
 -- `single::table::spread_image` meets its contract: the record behind the image's eight bytes is spread. Assumes nothing.
-use mathlib.Core.Path.{◌≡◌, ap, ◌∙◌}
+use mathlib.Core.Path.{ap, ◌∙◌}
 use mathlib.Core.List.{List}
 use Prim.Native.Nat.{ℕ}
 use native.Mathlib.Omega.{arith}
-use borrow.Author.Rules.{rules}
 use Rattle.cipher.specs.TreeHash.{tree_hash}
 use Rattle.single.specs.Image.{side_in}
 use Rattle.single.specs.Bare.{spread_record}

@@ -1,11 +1,9 @@
 -- `single::table::write_shares` meets its contract. The invariant: the first x cells are written. The measure is what is left.
 -- Assumes nothing.
 use mathlib.Core.Path.{◌≡◌, refl, sym}
-use Prim.Native.Nat.{◌*◌, ◌-◌, ◌≤◌}
 use native.Mathlib.Omega.{arith}
 use borrow.Author.Rules.{rules}
-use lib.ListN.{length, get_or, length-set}
-use Rattle.words.specs.Bytes.{put}
+use lib.ListN.{length-set}
 use Rattle.words.specs.Cells.{tab}
 use Rattle.words.proofs.ByteLaws.{put_nil}
 use Rattle.words.proofs.CellLaws.{put-tab}

@@ -1,14 +1,10 @@
 -- `single::table::write_shares` meets its contract. The invariant: the first x cells are written. The measure is what is left.
 -- Assumes nothing.
-use mathlib.Core.Path.{◌≡◌, refl, sym}
+use mathlib.Core.Path.{◌≡◌}
 use Prim.Native.Nat.{◌*◌, ◌-◌, ◌≤◌}
-use native.Mathlib.Omega.{arith}
-use borrow.Author.Rules.{rules}
-use lib.ListN.{length, get_or, length-set}
+use lib.ListN.{length, get_or}
 use Rattle.words.specs.Bytes.{put}
 use Rattle.words.specs.Cells.{tab}
-use Rattle.words.proofs.ByteLaws.{put_nil}
-use Rattle.words.proofs.CellLaws.{put-tab}
 use Rattle.single.proofs.table.write_shares.Given as goal
 
 abbrev pub invariant-loop-x : goal.invariant-loop-x

@@ -1,13 +1,10 @@
 -- `single::tree::descend` meets its contract. The invariant: the levels that are left, from the seed in hand, lead where all of
 -- them lead from the key's seed. The measure is the number of levels left. Assumes nothing.
-use mathlib.Core.Path.{◌≡◌, sym, ◌∙◌}
-use Prim.Native.Nat.{◌≤◌, ◌-◌, zero-le}
-use native.Mathlib.Nat.{sub-zero}
-use borrow.Author.Rules.{rules}
+use mathlib.Core.Path.{◌≡◌}
+use Prim.Native.Nat.{◌≤◌, ◌-◌}
 use Rattle.cipher.specs.TreeHash.{hash_by}
 use Rattle.single.specs.Rules as rule
 use Rattle.single.specs.Keys.{words_from, words_of}
-use Rattle.single.proofs.KeyLaws.{descend_next, descend_done}
 use Rattle.single.proofs.tree.descend.Given as goal
 
 abbrev pub invariant-loop-i : goal.invariant-loop-i

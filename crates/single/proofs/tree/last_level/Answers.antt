@@ -5,7 +5,6 @@ use Rattle.words.specs.declared.Word.{Word}
 use Rattle.words.specs.Word.{◌⊕◌, ◌when◌, one, odd, or_bit}
 use Rattle.cipher.specs.TreeHash.{hash_by}
 use Rattle.single.specs.Rules as rule
-use borrow.Author.Rules.{rules}
 use Rattle.single.proofs.tree.last_level.Goals as goal
 
 -- the parts in the order in which they are made

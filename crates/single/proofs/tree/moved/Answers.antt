@@ -1,6 +1,5 @@
 -- `single::tree::moved` meets its contract: its calls put the rule of a level together, from the hash that is given. Assumes
 -- nothing.
-use borrow.Author.Rules.{rules}
 use Rattle.single.proofs.tree.moved.Goals as goal
 
 pub returns : goal.returns

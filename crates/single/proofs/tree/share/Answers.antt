@@ -5,7 +5,6 @@ use Rattle.cipher.specs.TreeHash.{hash_by}
 use Rattle.single.specs.Rules as rule
 use Rattle.single.specs.Keys.{record_of}
 use Rattle.single.proofs.Layers.{share_from}
-use borrow.Author.Rules.{rules}
 use Rattle.single.proofs.tree.share.Goals as goal
 
 pub returns-then-k-eq1 : goal.returns-then-k-eq1

@@ -1,6 +1,5 @@
 -- `single::tree::share_of` meets its contract: the leaf, its value, and the sign of the party. Assumes nothing.
 use Rattle.single.specs.Keys.{worth}
-use borrow.Author.Rules.{rules}
 use Rattle.single.proofs.tree.share_of.Goals as goal
 
 pub returns : goal.returns

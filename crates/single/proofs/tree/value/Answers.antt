@@ -1,6 +1,5 @@
 -- `single::tree::value` meets its contract: its calls put the rule of a leaf's value together. Assumes nothing.
 use Rattle.single.specs.Rules as rule
-use borrow.Author.Rules.{rules}
 use Rattle.single.proofs.tree.value.Goals as goal
 
 pub returns : goal.returns

@@ -1,8 +1,6 @@
 -- `single_vectors::pairs::read_cells` is safe and ends. The invariant: x is at most the length, which stays. The measure is
 -- what is left of the slice. Assumes nothing.
-use mathlib.Core.Path.{◌≡◌}
-use Prim.Native.Nat.{◌-◌, ◌≤◌}
-use lib.ListN.{length, length-set}
+use lib.ListN.{length-set}
 use borrow.Author.Rules.{rules}
 use Rattle.single_vectors.proofs.pairs.read_cells.Goals as goal
 

@@ -2,8 +2,7 @@
 -- what is left of the slice. Assumes nothing.
 use mathlib.Core.Path.{◌≡◌}
 use Prim.Native.Nat.{◌-◌, ◌≤◌}
-use lib.ListN.{length, length-set}
-use borrow.Author.Rules.{rules}
+use lib.ListN.{length}
 use Rattle.single_vectors.proofs.pairs.read_cells.Given as goal
 
 abbrev pub invariant-loop-x : goal.invariant-loop-x

@@ -1,5 +1,5 @@
 -- `words::Word::convert_shifted` meets its contract: the shift, and then the conversion. Assumes nothing.
-use Rattle.std.proofs.Common.{ap, ◌∙◌, rules}
+use Rattle.std.proofs.Common.{ap, ◌∙◌}
 use Rattle.words.specs.Ring.{low, conv}
 use Rattle.words.proofs.Word.convert_shifted.Goals as goal
 

@@ -1,5 +1,5 @@
 -- `words::Word::from_bytes` meets its contract: the first eight bytes are the low half. Assumes nothing.
-use Rattle.std.proofs.Common.{ℕ, sym, ◌∙◌, ap₂, arith, rules}
+use Rattle.std.proofs.Common.{ℕ, sym, ◌∙◌, ap₂, arith}
 use Rattle.words.specs.declared.Word.{Word}
 use Rattle.words.specs.Bytes.{word_at}
 use Rattle.words.proofs.ByteLaws.{field_eight}

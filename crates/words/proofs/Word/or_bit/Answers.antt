@@ -1,5 +1,4 @@
 -- `words::Word::or_bit` meets its contract: by the bit. Assumes nothing.
-use Rattle.std.proofs.Common.{rules}
 use Rattle.words.proofs.Word.or_bit.Goals as goal
 
 pub returns-then-bit : goal.returns-then-bit

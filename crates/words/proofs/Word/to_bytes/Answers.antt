@@ -1,5 +1,4 @@
 -- `words::Word::to_bytes` meets its contract: the eight bytes of either half, low half first. Assumes nothing.
-use Rattle.std.proofs.Common.{rules}
 use Rattle.words.specs.Bytes.{le_bytes, word_bytes}
 use Rattle.words.proofs.Word.to_bytes.Goals as goal
 

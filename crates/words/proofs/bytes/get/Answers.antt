@@ -1,7 +1,6 @@
 -- `words::bytes::get` meets its contract: x is the number of the bytes from i on, and i falls. Assumes nothing.
-use Rattle.std.proofs.Common.{◌≡◌, ℕ, ◌+◌, ◌-◌, ◌*◌, ◌^◌, ◌<◌, ◌≤◌, length, get_or, sym, refl, ap, ◌∙◌, add-zero, arith, rules}
+use Rattle.std.proofs.Common.{◌≡◌, ◌+◌, ◌-◌, add-zero, arith, rules}
 use native.Mathlib.Nat.{sub-zero, sub_self}
-use Rattle.words.specs.Bytes.{field}
 use Rattle.words.proofs.ByteLaws.{field-zero, field_down, bytes_down, bytes_most}
 use Rattle.words.proofs.bytes.get.Goals as goal
 

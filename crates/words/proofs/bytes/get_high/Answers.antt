@@ -1,5 +1,5 @@
 -- `words::bytes::get_high` meets its contract: where `at` is behind the end, so is what stands eight further. Assumes nothing.
-use Rattle.std.proofs.Common.{◌+◌, sym, arith, rules}
+use Rattle.std.proofs.Common.{◌+◌, sym, arith}
 use Rattle.words.proofs.ByteLaws.{field-none}
 use Rattle.words.proofs.bytes.get_high.Goals as goal
 

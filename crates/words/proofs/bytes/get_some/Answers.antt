@@ -1,5 +1,5 @@
 -- `words::bytes::get_some` meets its contract: behind the end there is nothing, and near the end less. Assumes nothing.
-use Rattle.std.proofs.Common.{sym, ◌∙◌, arith, rules}
+use Rattle.std.proofs.Common.{sym, ◌∙◌, arith}
 use Rattle.words.proofs.ByteLaws.{field-none, field_short}
 use Rattle.words.proofs.bytes.get_some.Goals as goal
 

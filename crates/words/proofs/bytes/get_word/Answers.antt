@@ -1,5 +1,5 @@
 -- `words::bytes::get_word` meets its contract: the halves one behind the other. Assumes nothing.
-use Rattle.std.proofs.Common.{ℕ, ap₂, rules}
+use Rattle.std.proofs.Common.{ℕ, ap₂}
 use Rattle.words.specs.declared.Word.{Word}
 use Rattle.words.specs.Bytes.{word_at}
 use Rattle.words.proofs.bytes.get_word.Goals as goal

@@ -1,5 +1,5 @@
 -- `words::bytes::has_room` meets its contract: the tests are put so that no sum can wrap. Assumes nothing.
-use Rattle.std.proofs.Common.{◌+◌, ◌-◌, sym, arith, le-leb}
+use Rattle.std.proofs.Common.{◌+◌, sym, arith, le-leb}
 use borrow.Author.Tests.{lt-leb}
 use Rattle.words.proofs.bytes.has_room.Goals as goal
 

@@ -1,7 +1,7 @@
 -- `words::bytes::put_word` meets its contract: two stores of eight bytes, one behind the other, where there is room for both.
 -- Assumes nothing.
-use Rattle.std.proofs.Common.{◌≡◌, ◌+◌, ◌<◌, ◌≤◌, length, sym, ◌∙◌, arith, rules, leb-false, leb-true}
-use Rattle.words.specs.Bytes.{le_bytes, word_bytes}
+use Rattle.std.proofs.Common.{◌+◌, ◌<◌, length, sym, ◌∙◌, arith, leb-false, leb-true}
+use Rattle.words.specs.Bytes.{word_bytes}
 use Rattle.words.proofs.ByteLaws.{length-le_bytes, length-word_bytes, put_next, stored-fits, stored_not, number_fits, number_not}
 use Rattle.words.proofs.bytes.put_word.Goals as goal
 

@@ -1,7 +1,7 @@
 -- `words::bytes::set` meets its contract: the bytes below i stand, and the rest of x is still to come. Assumes nothing.
-use Rattle.std.proofs.Common.{◌≡◌, ℕ, ◌+◌, ◌-◌, ◌/◌, ◌%◌, ◌<◌, ◌≤◌, length, set, sym, refl, ◌∙◌, add-zero, arith, length-set, rules}
+use Rattle.std.proofs.Common.{◌≡◌, ◌+◌, ◌-◌, sym, refl, ◌∙◌, add-zero, arith, length-set, rules}
 use native.Mathlib.Nat.{sub-zero}
-use Rattle.words.specs.Bytes.{le_bytes, put}
+use Rattle.words.specs.Bytes.{le_bytes}
 use Rattle.words.proofs.ByteLaws.{put_nil, put_step}
 use Rattle.words.proofs.bytes.set.Goals as goal
 

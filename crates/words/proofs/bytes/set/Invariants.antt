@@ -1,8 +1,6 @@
 -- `words::bytes::set` meets its contract: the bytes below i stand, and the rest of x is still to come. Assumes nothing.
-use Rattle.std.proofs.Common.{◌≡◌, ℕ, ◌+◌, ◌-◌, ◌/◌, ◌%◌, ◌<◌, ◌≤◌, length, set, sym, refl, ◌∙◌, add-zero, arith, length-set, rules}
-use native.Mathlib.Nat.{sub-zero}
+use Rattle.std.proofs.Common.{◌≡◌, ◌+◌, ◌-◌, ◌≤◌, length}
 use Rattle.words.specs.Bytes.{le_bytes, put}
-use Rattle.words.proofs.ByteLaws.{put_nil, put_step}
 use Rattle.words.proofs.bytes.set.Given as goal
 
 -- what is still to be put, put, gives the answer

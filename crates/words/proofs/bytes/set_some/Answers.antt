@@ -1,6 +1,6 @@
 -- `words::bytes::set_some` meets its contract: it stores where there is room, and nothing where there is none.
 -- Assumes nothing.
-use Rattle.std.proofs.Common.{◌≡◌, ◌+◌, ◌<◌, ◌≤◌, length, sym, ◌∙◌, arith, rules, leb-false, leb-true}
+use Rattle.std.proofs.Common.{◌+◌, ◌<◌, ◌≤◌, length, sym, ◌∙◌, arith, leb-false, leb-true}
 use Rattle.words.specs.Bytes.{le_bytes}
 use Rattle.words.proofs.ByteLaws.{length-le_bytes, stored-fits, stored_not, number_fits, number_not}
 use Rattle.words.proofs.bytes.set_some.Goals as goal

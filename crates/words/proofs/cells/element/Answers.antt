@@ -1,5 +1,5 @@
 -- `words::cells::element` meets its contract: behind the end of a list there is the default. Assumes nothing.
-use Rattle.std.proofs.Common.{sym, rules}
+use Rattle.std.proofs.Common.{sym}
 use lib.ListN.{get_or-eq_default}
 use Rattle.words.proofs.cells.element.Goals as goal
 

@@ -1,5 +1,5 @@
 -- `words::cells::word_no` meets its contract: a word that begins behind the end has no bits. Assumes nothing.
-use Rattle.std.proofs.Common.{sym, arith, rules}
+use Rattle.std.proofs.Common.{sym, arith}
 use Rattle.words.specs.Cells.{word_no}
 use Rattle.words.proofs.CellLaws.{word_no_past}
 use Rattle.words.proofs.cells.word_no.Goals as goal

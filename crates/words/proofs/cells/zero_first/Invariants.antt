@@ -1,10 +1,8 @@
 -- `words::cells::zero_first` meets its contract. The invariant: the elements below i are 0, the others as they were. The
 -- measure is what is left. Assumes nothing.
-use Rattle.std.proofs.Common.{◌≡◌, ℕ, ◌-◌, ◌≤◌, min, List, length, replicate, sym, refl, ap, ◌∙◌, arith, length-set, rules}
+use Rattle.std.proofs.Common.{◌≡◌, ◌-◌, ◌≤◌, length}
 use Rattle.words.specs.Bytes.{put}
-use Rattle.words.specs.Cells.{tab, zeroed}
-use Rattle.words.proofs.ByteLaws.{put_nil}
-use Rattle.words.proofs.CellLaws.{put-tab, tab_same}
+use Rattle.words.specs.Cells.{tab}
 use Rattle.words.proofs.cells.zero_first.Given as goal
 
 abbrev pub invariant-loop-i : goal.invariant-loop-i

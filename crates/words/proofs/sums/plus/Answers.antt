@@ -1,5 +1,4 @@
 -- `words::sums::plus` meets its contract: it is what the library promises, as `add` has it. Assumes nothing.
-use Rattle.std.proofs.Common.{rules}
 use Rattle.words.specs.Ring.{add}
 use Rattle.words.proofs.sums.plus.Goals as goal
 
