@@ -20,6 +20,7 @@ pub mod ExpandLaws
 pub mod CellReads
 pub mod DomainReads
 pub mod SweepLaws
+pub mod RoomLaws
 pub mod RecordsMade
 pub mod MadeKeysRead
 pub mod OwnKeysRead

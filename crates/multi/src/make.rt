@@ -223,6 +223,7 @@ pub(crate) fn generate_number(
 }
 
 // With the sizes known: Words, Room.
+#[tactic(auto, using(crate::proofs::RoomLaws::room_words, crate::proofs::RoomLaws::room_first, crate::proofs::RoomLaws::room_second, crate::proofs::RoomLaws::room_enough))]
 fn room_number(words: usize, t: Totals, room0: usize, room1: usize) -> u64
     ensures { result ≡ first (spec.room_rows words t room0 room1) }
 {
