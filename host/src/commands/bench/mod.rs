@@ -119,7 +119,7 @@ fn head(say: &mut Say) -> Result<(), Problem> {
         counted(processors, "processor"),
         env!("RUST_VERSION")
     ))?;
-    say.line("- Library: `tools/library`, compiled for x86-64-v2 (no AES instructions); programs built for release.")?;
+    say.line("- Library: `tools/library`, compiled for plain x86-64 (no AES instructions); programs built for release.")?;
     say.line("- Times: the least processor time of several runs in one thread. Buffers are lent, touched before, and not cleared.")?;
     say.line(format!("- Multi keys have {points} in {buckets}, as the source counts buckets."))?;
     say.line("- Nothing is constant time: the cipher looks bytes up in a table by secret bytes.")
