@@ -20,7 +20,6 @@ pub mod ExpandLaws
 pub mod CellReads
 pub mod DomainReads
 pub mod SweepLaws
-pub mod RoomLaws
 pub mod RecordsMade
 pub mod MadeKeysRead
 pub mod OwnKeysRead

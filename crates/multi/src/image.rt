@@ -55,6 +55,7 @@ pub(crate) fn hash_keys(key: &[u8]) -> [u8; 48]
 }
 
 // Whether the header's numbers are within their limits, and the directory is there.
+#[tactic(auto, unfolding(crate::specs::Image::header_tests, words::specs::Refusals::every))]
 fn numbers_ok(party: u64, b: u64, d: u64, n: u64, offset: u64, len: u64) -> bool
     ensures { result ≡ every (spec.header_tests party b d n offset len) }
 {
@@ -203,6 +204,7 @@ pub(crate) fn image_ok(key: &[u8]) -> bool
 // ---- handing out a bucket's record
 
 // 0, or the refusal of handing out a bucket's record: Key, then Index.
+#[tactic(auto, unfolding(crate::specs::Image::record_number, words::specs::Refusals::first))]
 pub fn record_number(key: &[u8], bucket: u64) -> u64
     ensures { result ≡ spec.record_number key.now bucket }
 {

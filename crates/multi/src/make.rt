@@ -181,6 +181,7 @@ fn put_front(party: u32, domain: u64, count: u32, keys: [u8; 48], sizes: &[u64],
 // ---- refusals
 
 // Before anything is written: Domain, Buckets, Count, Point, Scratch.
+#[tactic(auto, unfolding(words::specs::Refusals::first))]
 pub(crate) fn generate_number(
     domain: u64,
     buckets: u64,
@@ -223,7 +224,7 @@ pub(crate) fn generate_number(
 }
 
 // With the sizes known: Words, Room.
-#[tactic(auto, using(crate::proofs::RoomLaws::room_words, crate::proofs::RoomLaws::room_first, crate::proofs::RoomLaws::room_second, crate::proofs::RoomLaws::room_enough))]
+#[tactic(auto, unfolding(crate::specs::Making::room_rows, words::specs::Refusals::first))]
 fn room_number(words: usize, t: Totals, room0: usize, room1: usize) -> u64
     ensures { result ≡ first (spec.room_rows words t room0 room1) }
 {

@@ -32,6 +32,7 @@ fn domain_room(key: &[u8]) -> u64
 }
 
 // One cell: Key, Index, Scratch.
+#[tactic(auto, unfolding(words::specs::Refusals::first))]
 pub(crate) fn evaluate_at_number(key: &[u8], index: u64, len: usize) -> u64
     ensures { result ≡ first (evaluate_at_early key.now index len) }
 {
@@ -48,6 +49,7 @@ pub(crate) fn evaluate_at_number(key: &[u8], index: u64, len: usize) -> u64
 }
 
 // The whole domain: Key, Scratch, Room.
+#[tactic(auto, unfolding(words::specs::Refusals::first))]
 pub(crate) fn evaluate_domain_number(key: &[u8], len: usize, room: usize) -> u64
     ensures { result ≡ first (evaluate_domain_early key.now len room) }
 {
@@ -64,6 +66,7 @@ pub(crate) fn evaluate_domain_number(key: &[u8], len: usize, room: usize) -> u64
 }
 
 // Adding: Key, Table, Scratch.
+#[tactic(auto, unfolding(words::specs::Refusals::first))]
 pub(crate) fn add_to_number(key: &[u8], cells: usize, len: usize) -> u64
     ensures { result ≡ first (add_to_early key.now cells len) }
 {

@@ -1,7 +1,8 @@
 -- `placement::lay_out` meets its contract: placing is refused, or the pass notes sizes and positions in the zeros behind what
 -- was placed. Assumes nothing.
+use Rattle.placement.specs.declared.Placed.{Placed}
 use mathlib.Core.Path.{◌≡◌, ◌∙◌}
-use mathlib.Core.List.{◌++◌}
+use mathlib.Core.List.{List, ◌++◌}
 use Prim.Native.Nat.{ℕ, ◌+◌, ◌<◌}
 use native.Mathlib.Omega.{arith}
 use lib.ListN.{length, replicate}
@@ -14,55 +15,45 @@ use Rattle.placement.proofs.CallLaws.{over_two, placed_otherwise, placed-clear, 
 use Rattle.placement.proofs.LayLaws.{lay_fresh, laid}
 use Rattle.placement.proofs.lay_out.Goals as goal
 
+-- what placing with two more buckets' worth of scratch says, and what it says where it placed
+module _ (h : ℕ → ℕ → ℕ) (D B : ℕ) (pts scratch : List ℕ) where
+  abbrev Placing : Placed → List ℕ → Type 0
+  Placing r l = placed r l
+      ≡ placing_with h D B pts (B + length pts + B + B) (cells (walk_in h B pts) ++ replicate (B + B) 0) scratch
+
+  facts : {r : Placed} {l : List ℕ} → Placing r l → r.number ≡ 0 → Placeable D B pts (length scratch) (B + length pts + B + B)
+  facts answer none = placeable-clear _ _ _ _ _ (placed-clear _ _ _ _ _ _ _ _ _ answer none)
+
 pub returns-then-done-ne0 : goal.returns-then-done-ne0
 returns-then-done-ne0 c =
-    let answer : placed c.place_over-done.result c.place_over-done.new.scratch
-    ≡ placing_with (bucket_by c.args.hashes c.args.buckets) c.args.domain c.args.buckets c.args.points.now (c.args.buckets + length c.args.points.now + c.args.buckets + c.args.buckets)
-    (cells (walk_in (bucket_by c.args.hashes c.args.buckets) c.args.buckets c.args.points.now) ++ replicate
-    (c.args.buckets + c.args.buckets) 0)
-    c.args.scratch.now = c.place_over-done.ensures ∙ over_two _ _ _ _ _ _ (omega arith) in
+    let answer = c.place_over-done.ensures ∙ over_two _ _ _ _ _ _ (omega arith) in
     placed_otherwise _ _ _ _ _ _ _ _ _ answer _ c.if-done-ne0.true
 
 pub sizes_and_positions-requires : goal.sizes_and_positions-requires
 sizes_and_positions-requires c =
-    let low : 0 < c.args.buckets → (k x : ℕ) → k < 3 → (bucket_by c.args.hashes c.args.buckets) k x < c.args.buckets = λ some k x l. bucket_by_lt _ _ k x some in
-    let answer : placed c.place_over-done.result c.place_over-done.new.scratch
-    ≡ placing_with (bucket_by c.args.hashes c.args.buckets) c.args.domain c.args.buckets c.args.points.now (c.args.buckets + length c.args.points.now + c.args.buckets + c.args.buckets)
-    (cells (walk_in (bucket_by c.args.hashes c.args.buckets) c.args.buckets c.args.points.now) ++ replicate
-    (c.args.buckets + c.args.buckets) 0)
-    c.args.scratch.now = c.place_over-done.ensures ∙ over_two _ _ _ _ _ _ (omega arith) in
-    let facts : Placeable c.args.domain c.args.buckets c.args.points.now (length c.args.scratch.now)
-    (c.args.buckets + length c.args.points.now + c.args.buckets + c.args.buckets) = placeable-clear _ _ _ _ _ (placed-clear _ _ _ _ _ _ _ _ _ answer c.if-done-ne0.false) in
-    let none = c.if-done-ne0.false in (
-      facts.some,
-      omega (arith, facts.domain),
-      lay_fresh _ _ (low facts.some) _ (placed-hand _ _ _ _ _ _ _ _ _ answer none) _ _ facts _
-          (placed-scratch _ _ _ _ _ _ _ _ _ answer none),
+    let h : ℕ → ℕ → ℕ = bucket_by c.args.hashes c.args.buckets in
+    let answer = c.place_over-done.ensures ∙ over_two _ _ _ _ _ _ (omega arith) in
+    let none = c.if-done-ne0.false in
+    let f = facts h _ _ _ _ answer none in
+    let low = λ (k x : ℕ) (l : k < 3). bucket_by_lt c.args.hashes c.args.buckets k x f.some in (
+      f.some,
+      omega (arith, f.domain),
+      lay_fresh _ _ low _ (placed-hand _ _ _ _ _ _ _ _ _ answer none) _ _ f _ (placed-scratch _ _ _ _ _ _ _ _ _ answer none),
     )
 
 pub returns : goal.returns
 returns c =
-    let low : 0 < c.args.buckets → (k x : ℕ) → k < 3 → (bucket_by c.args.hashes c.args.buckets) k x < c.args.buckets = λ some k x l. bucket_by_lt _ _ k x some in
-    let answer : placed c.place_over-done.result c.place_over-done.new.scratch
-    ≡ placing_with (bucket_by c.args.hashes c.args.buckets) c.args.domain c.args.buckets c.args.points.now (c.args.buckets + length c.args.points.now + c.args.buckets + c.args.buckets)
-    (cells (walk_in (bucket_by c.args.hashes c.args.buckets) c.args.buckets c.args.points.now) ++ replicate
-    (c.args.buckets + c.args.buckets) 0)
-    c.args.scratch.now = c.place_over-done.ensures ∙ over_two _ _ _ _ _ _ (omega arith) in
-    let facts : Placeable c.args.domain c.args.buckets c.args.points.now (length c.args.scratch.now)
-    (c.args.buckets + length c.args.points.now + c.args.buckets + c.args.buckets) = placeable-clear _ _ _ _ _ (placed-clear _ _ _ _ _ _ _ _ _ answer c.if-done-ne0.false) in
+    let h : ℕ → ℕ → ℕ = bucket_by c.args.hashes c.args.buckets in
+    let answer = c.place_over-done.ensures ∙ over_two _ _ _ _ _ _ (omega arith) in
     let none = c.if-done-ne0.false in
-    let hand = placed-hand _ _ _ _ _ _ _ _ _ answer none in
+    let f = facts h _ _ _ _ answer none in
+    let low = λ (k x : ℕ) (l : k < 3). bucket_by_lt c.args.hashes c.args.buckets k x f.some in
     placed_onward _ _ _ _ _ _ _ _ _ answer none _ _
-    (laid _ _ (low facts.some) _ hand _ _ facts _ _ (placed-scratch _ _ _ _ _ _ _ _ _ answer none)
+    (laid _ _ low _ (placed-hand _ _ _ _ _ _ _ _ _ answer none) _ _ f _ _ (placed-scratch _ _ _ _ _ _ _ _ _ answer none)
     c.sizes_and_positions.ensures)
 
 pub overflow_add-b : goal.overflow_add-b
 overflow_add-b c =
-    let answer : placed c.place_over-done.result c.place_over-done.new.scratch
-    ≡ placing_with (bucket_by c.args.hashes c.args.buckets) c.args.domain c.args.buckets c.args.points.now (c.args.buckets + length c.args.points.now + c.args.buckets + c.args.buckets)
-    (cells (walk_in (bucket_by c.args.hashes c.args.buckets) c.args.buckets c.args.points.now) ++ replicate
-    (c.args.buckets + c.args.buckets) 0)
-    c.args.scratch.now = c.place_over-done.ensures ∙ over_two _ _ _ _ _ _ (omega arith) in
-    let facts : Placeable c.args.domain c.args.buckets c.args.points.now (length c.args.scratch.now)
-    (c.args.buckets + length c.args.points.now + c.args.buckets + c.args.buckets) = placeable-clear _ _ _ _ _ (placed-clear _ _ _ _ _ _ _ _ _ answer c.if-done-ne0.false) in
-    omega (arith, facts.few, facts.within)
+    let h : ℕ → ℕ → ℕ = bucket_by c.args.hashes c.args.buckets in
+    let f = facts h _ _ _ _ (c.place_over-done.ensures ∙ over_two _ _ _ _ _ _ (omega arith)) c.if-done-ne0.false in
+    omega (arith, f.few, f.within)

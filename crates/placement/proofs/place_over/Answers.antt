@@ -9,9 +9,7 @@ use lib.ListN.{length, drop, replicate}
 use lib.Seq.{length-take-le}
 use Rattle.words.specs.Bytes.{put}
 use Rattle.words.specs.Cells.{zeroed}
-use Rattle.words.specs.Limits.{most_buckets}
 use Rattle.words.proofs.CellLaws.{length-zeroed}
-use Rattle.bucket_hash.specs.BucketHash.{bucket_by}
 use Rattle.placement.specs.Walk.{Walk}
 use Rattle.placement.specs.Passes.{walk_at}
 use Rattle.placement.specs.Calls.{placed, walk_in, placeable, placing_over}
@@ -21,142 +19,109 @@ use Rattle.placement.proofs.CallLaws.{part-put, placed-refused, placed_gave_up, 
 use Rattle.placement.proofs.LayLaws.{zeroed_again}
 use Rattle.placement.proofs.place_over.Goals as goal
 
+-- what the tests say where they pass, and what was lent to the walk: `whole` is the scratch once it is zeroed where needed
+module _ (D B more : ℕ) (pts scratch : List ℕ) where
+  abbrev needed : ℕ
+  needed = B + length pts + B * more
+
+  tested : {n : ℕ} → n ≡ placeable D B pts (length scratch) (B * (1 + more) + length pts)
+      → n ≡ placeable D B pts (length scratch) needed
+  tested e = e ∙ ap (placeable _ _ _ _) (omega (arith, mul-add B 1 more))
+
+  passed : {n : ℕ} → n ≡ placeable D B pts (length scratch) (B * (1 + more) + length pts) → n ≡ 0
+      → placeable D B pts (length scratch) needed ≡ 0
+  passed e none = sym (tested e) ∙ none
+
+  facts : {n : ℕ} → n ≡ placeable D B pts (length scratch) (B * (1 + more) + length pts) → n ≡ 0
+      → Placeable D B pts (length scratch) needed
+  facts e none = placeable-clear _ _ _ _ _ (passed e none)
+
+  lent : {whole : List ℕ} → Placeable D B pts (length scratch) needed → whole ≡ zeroed needed scratch
+      → B + length pts ≤ length whole
+  lent f zero = omega (arith, f.room, ap length zero, length-zeroed needed scratch)
+
+  -- what the walk left in the part that it was lent, and the zeros behind it
+  joined : {whole : List ℕ} (left : List ℕ) → length left ≡ B + length pts → whole ≡ zeroed needed scratch
+      → left ++ drop (B + length pts) whole ≡ put (zeroed needed scratch) 0 left
+  joined {whole = whole} left long zero = part-put _ whole left long ∙ ap (λ (k : List ℕ). put k 0 left) zero
+
 pub returns-then-number-ne0 : goal.returns-then-number-ne0
 unfolding placing_over
 returns-then-number-ne0 c =
-    let number : c.place_number-number.result ≡ placeable c.args.domain c.args.buckets c.args.points.now
-    (length c.args.scratch.now) (c.args.buckets + length c.args.points.now + c.args.buckets * c.args.more) = c.place_number-number.ensures ∙ ap (placeable _ _ _ _) (omega (arith, mul-add c.args.buckets 1 c.args.more)) in
-    placed-refused _ _ _ _ _ _ _ _ number c.if-number-ne0.true
+    let a = c.args in
+    placed-refused _ _ _ _ _ _ _ _ (tested a.domain a.buckets a.more a.points.now a.scratch.now c.place_number-number.ensures)
+    c.if-number-ne0.true
 
 pub slice_bounds-walk-end : goal.slice_bounds-walk-end
 slice_bounds-walk-end c =
-    let number : c.place_number-number.result ≡ placeable c.args.domain c.args.buckets c.args.points.now
-    (length c.args.scratch.now) (c.args.buckets + length c.args.points.now + c.args.buckets * c.args.more) = c.place_number-number.ensures ∙ ap (placeable _ _ _ _) (omega (arith, mul-add c.args.buckets 1 c.args.more)) in
-    let clear : placeable c.args.domain c.args.buckets c.args.points.now (length c.args.scratch.now)
-    (c.args.buckets + length c.args.points.now + c.args.buckets * c.args.more) ≡ 0 = sym number ∙ c.if-number-ne0.false in
-    let facts : Placeable c.args.domain c.args.buckets c.args.points.now (length c.args.scratch.now)
-    (c.args.buckets + length c.args.points.now + c.args.buckets * c.args.more) = placeable-clear _ _ _ _ _ clear in
-    let zero : c.zero_first.new.cells ≡ zeroed (c.args.buckets + length c.args.points.now + c.args.buckets * c.args.more) c.args.scratch.now = c.zero_first.ensures in
-    let zero_room : c.args.buckets + length c.args.points.now ≤ length c.zero_first.new.cells = omega (arith, facts.room, ap length zero, length-zeroed (c.args.buckets + length c.args.points.now + c.args.buckets * c.args.more) c.args.scratch.now) in
-    zero_room
+    let a = c.args in
+    let f = facts a.domain a.buckets a.more a.points.now a.scratch.now c.place_number-number.ensures c.if-number-ne0.false in
+    lent a.domain a.buckets a.more a.points.now a.scratch.now f c.zero_first.ensures
 
 pub slice_bounds-walk-end-2 : goal.slice_bounds-walk-end-2
 slice_bounds-walk-end-2 c =
-    let number : c.place_number-number.result ≡ placeable c.args.domain c.args.buckets c.args.points.now
-    (length c.args.scratch.now) (c.args.buckets + length c.args.points.now + c.args.buckets * c.args.more) = c.place_number-number.ensures ∙ ap (placeable _ _ _ _) (omega (arith, mul-add c.args.buckets 1 c.args.more)) in
-    let clear : placeable c.args.domain c.args.buckets c.args.points.now (length c.args.scratch.now)
-    (c.args.buckets + length c.args.points.now + c.args.buckets * c.args.more) ≡ 0 = sym number ∙ c.if-number-ne0.false in
-    let facts : Placeable c.args.domain c.args.buckets c.args.points.now (length c.args.scratch.now)
-    (c.args.buckets + length c.args.points.now + c.args.buckets * c.args.more) = placeable-clear _ _ _ _ _ clear in
-    let zero : c.zero_first.new.cells ≡ zeroed (c.args.buckets + length c.args.points.now + c.args.buckets * c.args.more) c.args.scratch.now = c.zero_first.ensures in
-    let zero_room : c.args.buckets + length c.args.points.now ≤ length c.zero_first.new.cells = omega (arith, facts.room, ap length zero, length-zeroed (c.args.buckets + length c.args.points.now + c.args.buckets * c.args.more) c.args.scratch.now) in
-    sym (length-take-le _ _ zero_room)
+    let a = c.args in
+    let f = facts a.domain a.buckets a.more a.points.now a.scratch.now c.place_number-number.ensures c.if-number-ne0.false in
+    sym (length-take-le _ _ (lent a.domain a.buckets a.more a.points.now a.scratch.now f c.zero_first.ensures))
 
 pub walk-hand-requires : goal.walk-hand-requires
 walk-hand-requires c =
-    let number : c.place_number-number.result ≡ placeable c.args.domain c.args.buckets c.args.points.now
-    (length c.args.scratch.now) (c.args.buckets + length c.args.points.now + c.args.buckets * c.args.more) = c.place_number-number.ensures ∙ ap (placeable _ _ _ _) (omega (arith, mul-add c.args.buckets 1 c.args.more)) in
-    let clear : placeable c.args.domain c.args.buckets c.args.points.now (length c.args.scratch.now)
-    (c.args.buckets + length c.args.points.now + c.args.buckets * c.args.more) ≡ 0 = sym number ∙ c.if-number-ne0.false in
-    let facts : Placeable c.args.domain c.args.buckets c.args.points.now (length c.args.scratch.now)
-    (c.args.buckets + length c.args.points.now + c.args.buckets * c.args.more) = placeable-clear _ _ _ _ _ clear in
-    let zero : c.zero_first.new.cells ≡ zeroed (c.args.buckets + length c.args.points.now + c.args.buckets * c.args.more) c.args.scratch.now = c.zero_first.ensures in
-    let zero_room : c.args.buckets + length c.args.points.now ≤ length c.zero_first.new.cells = omega (arith, facts.room, ap length zero, length-zeroed (c.args.buckets + length c.args.points.now + c.args.buckets * c.args.more) c.args.scratch.now) in
-    (facts.some, facts.few, omega (arith, facts.few, facts.within), length-take-le _ _ zero_room)
+    let a = c.args in
+    let f = facts a.domain a.buckets a.more a.points.now a.scratch.now c.place_number-number.ensures c.if-number-ne0.false in (
+      f.some,
+      f.few,
+      omega (arith, f.few, f.within),
+      length-take-le _ _ (lent a.domain a.buckets a.more a.points.now a.scratch.now f c.zero_first.ensures),
+    )
 
--- ---- the three ways out
+-- ---- the ways out behind the walk
 pub returns-then-hand-ne0 : goal.returns-then-hand-ne0
 unfolding placing_over walk_in walk_at
 returns-then-hand-ne0 c =
-    let number : c.place_number-number.result ≡ placeable c.args.domain c.args.buckets c.args.points.now
-    (length c.args.scratch.now) (c.args.buckets + length c.args.points.now + c.args.buckets * c.args.more) = c.place_number-number.ensures ∙ ap (placeable _ _ _ _) (omega (arith, mul-add c.args.buckets 1 c.args.more)) in
-    let clear : placeable c.args.domain c.args.buckets c.args.points.now (length c.args.scratch.now)
-    (c.args.buckets + length c.args.points.now + c.args.buckets * c.args.more) ≡ 0 = sym number ∙ c.if-number-ne0.false in
-    let facts : Placeable c.args.domain c.args.buckets c.args.points.now (length c.args.scratch.now)
-    (c.args.buckets + length c.args.points.now + c.args.buckets * c.args.more) = placeable-clear _ _ _ _ _ clear in
+    let a = c.args in
+    let none = passed a.domain a.buckets a.more a.points.now a.scratch.now c.place_number-number.ensures c.if-number-ne0.false in
+    let f = placeable-clear _ _ _ _ _ none in
     let left : List ℕ = c.walk-hand.new.work in
-    let shown : walk_at c.args.buckets left c.walk-hand.result.point c.walk-hand.result.evictions
-    ≡ walk_in (bucket_by c.args.hashes c.args.buckets) c.args.buckets c.args.points.now = c.walk-hand.ensures in
-    let hand : c.walk-hand.result.point
-    ≡ (walk_in (bucket_by c.args.hashes c.args.buckets) c.args.buckets c.args.points.now).hand = ap (λ (v : Walk). v.hand) shown in
-    let zero : c.zero_first.new.cells ≡ zeroed (c.args.buckets + length c.args.points.now + c.args.buckets * c.args.more) c.args.scratch.now = c.zero_first.ensures in
-    let zero_room : c.args.buckets + length c.args.points.now ≤ length c.zero_first.new.cells = omega (arith, facts.room, ap length zero, length-zeroed (c.args.buckets + length c.args.points.now + c.args.buckets * c.args.more) c.args.scratch.now) in
-    let long : length left ≡ c.args.buckets + length c.args.points.now = omega (
-      arith,
-      c.walk-hand.auto,
-      length-take-le (c.args.buckets + length c.args.points.now)
-          c.zero_first.new.cells zero_room,
-    ) in
-    let over : left ++ drop (c.args.buckets + length c.args.points.now) c.zero_first.new.cells
-    ≡ put (zeroed (c.args.buckets + length c.args.points.now + c.args.buckets * c.args.more) c.args.scratch.now) 0 left = part-put _ c.zero_first.new.cells left long ∙ ap (λ (k : List ℕ). put k 0 left)
-    zero in
-    let n : ℕ = (c.args.buckets + length c.args.points.now + c.args.buckets * c.args.more) in
-    ap (placed _) (c.zero_first-then-hand-ne0.ensures ∙ ap (zeroed n) over ∙ zeroed_again n c.args.scratch.now
-    left facts.room (omega (arith, long)))
-    ∙ placed_gave_up _ _ _ _ _ _ _ clear (λ z. c.if-hand-ne0.true (hand ∙ z))
+    let room = length-take-le (a.buckets + length a.points.now) c.zero_first.new.cells (lent a.domain a.buckets a.more a.points.now a.scratch.now f c.zero_first.ensures) in
+    let long : length left ≡ a.buckets + length a.points.now = omega (arith, c.walk-hand.auto, room) in
+    let n : ℕ = needed a.domain a.buckets a.more a.points.now a.scratch.now in
+    ap (placed _) (c.zero_first-then-hand-ne0.ensures
+    ∙ ap (zeroed n) (joined a.domain a.buckets a.more a.points.now a.scratch.now left long c.zero_first.ensures)
+    ∙ zeroed_again n a.scratch.now left f.room (omega (arith, long)))
+    ∙ placed_gave_up _ _ _ _ _ _ _ none (λ z. c.if-hand-ne0.true (ap (λ (v : Walk). v.hand) c.walk-hand.ensures ∙ z))
 
 pub returns : goal.returns
 unfolding placing_over walk_in walk_at
 returns c =
-    let number : c.place_number-number.result ≡ placeable c.args.domain c.args.buckets c.args.points.now
-    (length c.args.scratch.now) (c.args.buckets + length c.args.points.now + c.args.buckets * c.args.more) = c.place_number-number.ensures ∙ ap (placeable _ _ _ _) (omega (arith, mul-add c.args.buckets 1 c.args.more)) in
-    let clear : placeable c.args.domain c.args.buckets c.args.points.now (length c.args.scratch.now)
-    (c.args.buckets + length c.args.points.now + c.args.buckets * c.args.more) ≡ 0 = sym number ∙ c.if-number-ne0.false in
-    let facts : Placeable c.args.domain c.args.buckets c.args.points.now (length c.args.scratch.now)
-    (c.args.buckets + length c.args.points.now + c.args.buckets * c.args.more) = placeable-clear _ _ _ _ _ clear in
+    let a = c.args in
+    let none = passed a.domain a.buckets a.more a.points.now a.scratch.now c.place_number-number.ensures c.if-number-ne0.false in
+    let f = placeable-clear _ _ _ _ _ none in
     let left : List ℕ = c.walk-hand.new.work in
-    let shown : walk_at c.args.buckets left c.walk-hand.result.point c.walk-hand.result.evictions
-    ≡ walk_in (bucket_by c.args.hashes c.args.buckets) c.args.buckets c.args.points.now = c.walk-hand.ensures in
-    let hand : c.walk-hand.result.point
-    ≡ (walk_in (bucket_by c.args.hashes c.args.buckets) c.args.buckets c.args.points.now).hand = ap (λ (v : Walk). v.hand) shown in
-    let evictions : c.walk-hand.result.evictions
-    ≡ (walk_in (bucket_by c.args.hashes c.args.buckets) c.args.buckets
-    c.args.points.now).evictions = ap (λ (v : Walk). v.evictions) shown in
-    let zero : c.zero_first.new.cells ≡ zeroed (c.args.buckets + length c.args.points.now + c.args.buckets * c.args.more) c.args.scratch.now = c.zero_first.ensures in
-    let zero_room : c.args.buckets + length c.args.points.now ≤ length c.zero_first.new.cells = omega (arith, facts.room, ap length zero, length-zeroed (c.args.buckets + length c.args.points.now + c.args.buckets * c.args.more) c.args.scratch.now) in
-    let long : length left ≡ c.args.buckets + length c.args.points.now = omega (
-      arith,
-      c.walk-hand.auto,
-      length-take-le (c.args.buckets + length c.args.points.now)
-          c.zero_first.new.cells zero_room,
-    ) in
-    let over : left ++ drop (c.args.buckets + length c.args.points.now) c.zero_first.new.cells
-    ≡ put (zeroed (c.args.buckets + length c.args.points.now + c.args.buckets * c.args.more) c.args.scratch.now) 0 left = part-put _ c.zero_first.new.cells left long ∙ ap (λ (k : List ℕ). put k 0 left)
-    zero in
-    placed-all _ _ _ _ _ _ _ clear _ _ (sym hand ∙ c.if-hand-ne0.false) evictions
-    (over
-    ∙ over_zeros _ _ c.args.scratch.now left long facts.room
-    ∙ ap (λ (k : List ℕ). put c.args.scratch.now 0 (k ++ replicate (c.args.buckets * c.args.more) 0))
-    (cells-walk_at _ _ _ _ _ shown))
+    let room = length-take-le (a.buckets + length a.points.now) c.zero_first.new.cells (lent a.domain a.buckets a.more a.points.now a.scratch.now f c.zero_first.ensures) in
+    let long : length left ≡ a.buckets + length a.points.now = omega (arith, c.walk-hand.auto, room) in
+    let hand = ap (λ (v : Walk). v.hand) c.walk-hand.ensures in
+    let evictions = ap (λ (v : Walk). v.evictions) c.walk-hand.ensures in
+    placed-all _ _ _ _ _ _ _ none _ _ (sym hand ∙ c.if-hand-ne0.false) evictions
+    (joined a.domain a.buckets a.more a.points.now a.scratch.now left long c.zero_first.ensures
+    ∙ over_zeros _ _ a.scratch.now left long f.room
+    ∙ ap (λ (k : List ℕ). put a.scratch.now 0 (k ++ replicate (a.buckets * a.more) 0))
+    (cells-walk_at _ _ _ _ _ c.walk-hand.ensures))
 
+-- ---- sums and products
 pub overflow_add-s : goal.overflow_add-s
 overflow_add-s c =
-    let number : c.place_number-number.result ≡ placeable c.args.domain c.args.buckets c.args.points.now
-    (length c.args.scratch.now) (c.args.buckets + length c.args.points.now + c.args.buckets * c.args.more) = c.place_number-number.ensures ∙ ap (placeable _ _ _ _) (omega (arith, mul-add c.args.buckets 1 c.args.more)) in
-    let clear : placeable c.args.domain c.args.buckets c.args.points.now (length c.args.scratch.now)
-    (c.args.buckets + length c.args.points.now + c.args.buckets * c.args.more) ≡ 0 = sym number ∙ c.if-number-ne0.false in
-    let facts : Placeable c.args.domain c.args.buckets c.args.points.now (length c.args.scratch.now)
-    (c.args.buckets + length c.args.points.now + c.args.buckets * c.args.more) = placeable-clear _ _ _ _ _ clear in
-    omega (arith, facts.few, facts.within)
+    let a = c.args in
+    let f = facts a.domain a.buckets a.more a.points.now a.scratch.now c.place_number-number.ensures c.if-number-ne0.false in
+    omega (arith, f.few, f.within)
 
 pub overflow_mul-need : goal.overflow_mul-need
 overflow_mul-need c =
-    let number : c.place_number-number.result ≡ placeable c.args.domain c.args.buckets c.args.points.now
-    (length c.args.scratch.now) (c.args.buckets + length c.args.points.now + c.args.buckets * c.args.more) = c.place_number-number.ensures ∙ ap (placeable _ _ _ _) (omega (arith, mul-add c.args.buckets 1 c.args.more)) in
-    let clear : placeable c.args.domain c.args.buckets c.args.points.now (length c.args.scratch.now)
-    (c.args.buckets + length c.args.points.now + c.args.buckets * c.args.more) ≡ 0 = sym number ∙ c.if-number-ne0.false in
-    let facts : Placeable c.args.domain c.args.buckets c.args.points.now (length c.args.scratch.now)
-    (c.args.buckets + length c.args.points.now + c.args.buckets * c.args.more) = placeable-clear _ _ _ _ _ clear in
-    let small : c.args.buckets * c.args.more ≤ most_buckets * 2 = mul-le-mul facts.few c.requires in
-    omega (arith, small)
+    let a = c.args in
+    let f = facts a.domain a.buckets a.more a.points.now a.scratch.now c.place_number-number.ensures c.if-number-ne0.false in
+    omega (arith, mul-le-mul f.few c.requires)
 
 pub overflow_add-need : goal.overflow_add-need
 overflow_add-need c =
-    let number : c.place_number-number.result ≡ placeable c.args.domain c.args.buckets c.args.points.now
-    (length c.args.scratch.now) (c.args.buckets + length c.args.points.now + c.args.buckets * c.args.more) = c.place_number-number.ensures ∙ ap (placeable _ _ _ _) (omega (arith, mul-add c.args.buckets 1 c.args.more)) in
-    let clear : placeable c.args.domain c.args.buckets c.args.points.now (length c.args.scratch.now)
-    (c.args.buckets + length c.args.points.now + c.args.buckets * c.args.more) ≡ 0 = sym number ∙ c.if-number-ne0.false in
-    let facts : Placeable c.args.domain c.args.buckets c.args.points.now (length c.args.scratch.now)
-    (c.args.buckets + length c.args.points.now + c.args.buckets * c.args.more) = placeable-clear _ _ _ _ _ clear in
-    let small : c.args.buckets * c.args.more ≤ most_buckets * 2 = mul-le-mul facts.few c.requires in
-    omega (arith, facts.few, facts.within, small)
+    let a = c.args in
+    let f = facts a.domain a.buckets a.more a.points.now a.scratch.now c.place_number-number.ensures c.if-number-ne0.false in
+    omega (arith, f.few, f.within, mul-le-mul f.few c.requires)

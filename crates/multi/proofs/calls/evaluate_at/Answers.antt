@@ -23,7 +23,6 @@ read_cell-answer-requires c =
     let clear : let a = c.args in Readable a.key.now a.index (length a.scratch.now) = readable _ _ _ passed in
     (clear.ok, clear.inside, clear.room)
 
--- the places are after the cell and after the bucket functions
 pub returns : goal.returns
 returns c =
     let passed : let a = c.args in first (evaluate_at_early a.key.now a.index (length a.scratch.now)) ≡ 0 = sym c.evaluate_at_number-number.ensures ∙ c.if-number-ne0.false in

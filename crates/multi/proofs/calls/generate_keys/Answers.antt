@@ -22,52 +22,59 @@ returns-then-number-ne0 c =
     c.refused.ensures
     ∙ call_refused tree_hash bucket_of (let a = c.args in given a.domain a.buckets a.keys a.points.now a.values.now a.words.now) _ _ _ _ c.generate_number-number.ensures c.if-number-ne0.true
 
+-- what the tests say where they pass, and how long the part of the scratch is that is lent
+module _ (w : Given) (scratch : List ℕ) {n : ℕ} (answer : n ≡ first (generate_early w (length scratch))) (none : n ≡ 0) where
+  passed : first (generate_early w (length scratch)) ≡ 0
+  passed = sym answer ∙ none
+
+  facts : Early w (length scratch)
+  facts = early w _ passed
+
+  lent : length (take (generate_room w) scratch) ≡ generate_room w
+  lent = length-take-le _ _ facts.room
+
 pub make_in-answer-requires : goal.make_in-answer-requires
 make_in-answer-requires c =
-    let what : Given = given c.args.domain c.args.buckets c.args.keys c.args.points.now c.args.values.now c.args.words.now in
-    let passed : first (generate_early what (length c.args.scratch.now)) ≡ 0 = sym c.generate_number-number.ensures ∙ c.if-number-ne0.false in
-    let facts : Early what (length c.args.scratch.now) = early what _ passed in
-    let part-long : length (take (generate_room what) c.args.scratch.now) ≡ generate_room what = length-take-le _ _ facts.room in
-    ap (λ (n : ℕ). first (generate_early (let a = c.args in given a.domain a.buckets a.keys a.points.now a.values.now a.words.now) n)) part-long ∙ early_part (let a = c.args in given a.domain a.buckets a.keys a.points.now a.values.now a.words.now) _ passed
+    let a = c.args in
+    let w = given a.domain a.buckets a.keys a.points.now a.values.now a.words.now in
+    let long = lent w a.scratch.now c.generate_number-number.ensures c.if-number-ne0.false in
+    ap (λ (n : ℕ). first (generate_early w n)) long
+    ∙ early_part w _ (passed w a.scratch.now c.generate_number-number.ensures c.if-number-ne0.false)
 
 pub returns : goal.returns
 returns c =
-    let what : Given = given c.args.domain c.args.buckets c.args.keys c.args.points.now c.args.values.now c.args.words.now in
-    let passed : first (generate_early what (length c.args.scratch.now)) ≡ 0 = sym c.generate_number-number.ensures ∙ c.if-number-ne0.false in
-    let facts : Early what (length c.args.scratch.now) = early what _ passed in
-    let part-long : length (take (generate_room what) c.args.scratch.now) ≡ generate_room what = length-take-le _ _ facts.room in
-    ap (λ (l : List ℕ). generating c.make_in-answer.result l c.make_in-answer.new.key0
-    c.make_in-answer.new.key1)
+    let a = c.args in
+    let w = given a.domain a.buckets a.keys a.points.now a.values.now a.words.now in
+    let long = lent w a.scratch.now c.generate_number-number.ensures c.if-number-ne0.false in
+    let f = facts w a.scratch.now c.generate_number-number.ensures c.if-number-ne0.false in
+    let made = c.make_in-answer in
+    ap (λ (l : List ℕ). generating made.result l made.new.key0 made.new.key1)
     (c.zero_first.ensures
-    ∙ zeroed_over (generate_room (let a = c.args in given a.domain a.buckets a.keys a.points.now a.values.now a.words.now)) c.args.scratch.now c.make_in-answer.new.scratch
-    (omega (arith, c.make_in-answer.auto, part-long)) facts.room)
-    ∙ call_made tree_hash bucket_of (let a = c.args in given a.domain a.buckets a.keys a.points.now a.values.now a.words.now) _ _ _ _ _ _ passed c.make_in-answer.ensures
+    ∙ zeroed_over (generate_room w) a.scratch.now made.new.scratch (omega (arith, made.auto, long)) f.room)
+    ∙ call_made tree_hash bucket_of w _ _ _ _ _ _
+    (passed w a.scratch.now c.generate_number-number.ensures c.if-number-ne0.false) made.ensures
 
 pub overflow_mul-need : goal.overflow_mul-need
 overflow_mul-need c =
-    let what : Given = given c.args.domain c.args.buckets c.args.keys c.args.points.now c.args.values.now c.args.words.now in
-    let passed : first (generate_early what (length c.args.scratch.now)) ≡ 0 = sym c.generate_number-number.ensures ∙ c.if-number-ne0.false in
-    let facts : Early what (length c.args.scratch.now) = early what _ passed in
-    omega (arith, facts.few_buckets)
+    let a = c.args in
+    let w = given a.domain a.buckets a.keys a.points.now a.values.now a.words.now in
+    omega (arith, (facts w a.scratch.now c.generate_number-number.ensures c.if-number-ne0.false).few_buckets)
 
 pub overflow_add-need : goal.overflow_add-need
 overflow_add-need c =
-    let what : Given = given c.args.domain c.args.buckets c.args.keys c.args.points.now c.args.values.now c.args.words.now in
-    let passed : first (generate_early what (length c.args.scratch.now)) ≡ 0 = sym c.generate_number-number.ensures ∙ c.if-number-ne0.false in
-    let facts : Early what (length c.args.scratch.now) = early what _ passed in
-    omega (arith, facts.few_buckets, facts.few_points)
+    let a = c.args in
+    let w = given a.domain a.buckets a.keys a.points.now a.values.now a.words.now in
+    let f = facts w a.scratch.now c.generate_number-number.ensures c.if-number-ne0.false in
+    omega (arith, f.few_buckets, f.few_points)
 
 pub slice_bounds-make_in-end : goal.slice_bounds-make_in-end
 slice_bounds-make_in-end c =
-    let what : Given = given c.args.domain c.args.buckets c.args.keys c.args.points.now c.args.values.now c.args.words.now in
-    let passed : first (generate_early what (length c.args.scratch.now)) ≡ 0 = sym c.generate_number-number.ensures ∙ c.if-number-ne0.false in
-    let facts : Early what (length c.args.scratch.now) = early what _ passed in
-    facts.room
+    let a = c.args in
+    let w = given a.domain a.buckets a.keys a.points.now a.values.now a.words.now in
+    (facts w a.scratch.now c.generate_number-number.ensures c.if-number-ne0.false).room
 
 pub slice_bounds-make_in-end-2 : goal.slice_bounds-make_in-end-2
 slice_bounds-make_in-end-2 c =
-    let what : Given = given c.args.domain c.args.buckets c.args.keys c.args.points.now c.args.values.now c.args.words.now in
-    let passed : first (generate_early what (length c.args.scratch.now)) ≡ 0 = sym c.generate_number-number.ensures ∙ c.if-number-ne0.false in
-    let facts : Early what (length c.args.scratch.now) = early what _ passed in
-    let part-long : length (take (generate_room what) c.args.scratch.now) ≡ generate_room what = length-take-le _ _ facts.room in
-    sym part-long
+    let a = c.args in
+    let w = given a.domain a.buckets a.keys a.points.now a.values.now a.words.now in
+    sym (lent w a.scratch.now c.generate_number-number.ensures c.if-number-ne0.false)

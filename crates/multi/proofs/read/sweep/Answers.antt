@@ -10,7 +10,6 @@ use Rattle.multi.proofs.read.sweep.Goals as goal
 pub hash_keys-requires : goal.hash_keys-requires
 hash_keys-requires c = omega (arith, (well_formed _ c.requires.ok).directory)
 
--- the places are after the need of scratch, after the cells and after the bucket functions
 pub returns : goal.returns
 returns c =
     let r = let l = c.args.key.now in

@@ -3,21 +3,20 @@
 use mathlib.Core.Path.{ap, ◌∙◌}
 use Prim.Native.Nat.{ℕ, ◌<◌}
 use native.Mathlib.Omega.{arith}
-use Rattle.bucket_hash.specs.BucketHash.{bucket_by}
 use Rattle.bucket_hash.proofs.BucketsBelow.{bucket_by_lt}
 use Rattle.placement.specs.Passes.{entered, noted_in}
 use Rattle.placement.proofs.CountLaws.{counter_of}
-use Rattle.placement.proofs.NoteLaws.{Noting, noting_start, noting_labels, noting_three, noting_enter, noting_done}
+use Rattle.placement.proofs.NoteLaws.{noting_start, noting_labels, noting_three, noting_enter, noting_done}
 use Rattle.placement.proofs.held.sizes_and_positions.Goals as goal
 
 pub loop-x-init : goal.loop-x-init
 loop-x-init c =
-    let low : (k x : ℕ) → k < 3 → bucket_by c.args.hashes c.args.buckets k x < c.args.buckets = λ k x l. bucket_by_lt _ _ k x c.requires.0 in
+    let low = λ (k x : ℕ) (l : k < 3). bucket_by_lt c.args.hashes c.args.buckets k x c.requires.0 in
     (omega arith, noting_start _ _ low _ _ _ _ c.requires.2)
 
 pub note_three-requires : goal.note_three-requires
 note_three-requires c =
-    let low : (k x : ℕ) → k < 3 → bucket_by c.args.hashes c.args.buckets k x < c.args.buckets = λ k x l. bucket_by_lt _ _ k x c.requires.0 in
+    let low = λ (k x : ℕ) (l : k < 3). bucket_by_lt c.args.hashes c.args.buckets k x c.requires.0 in
     let l = c.loop-x in
     let f = c.requires.2 in
     rw c.three-t.ensures (
@@ -32,9 +31,8 @@ note_three-requires c =
 
 pub enter-requires : goal.enter-requires
 enter-requires c =
-    let low : (k x : ℕ) → k < 3 → bucket_by c.args.hashes c.args.buckets k x < c.args.buckets = λ k x l. bucket_by_lt _ _ k x c.requires.0 in
-    let noted_here : let a = c.args in
-    Noting (bucket_by a.hashes a.buckets) a.buckets a.s a.points.now a.work.now c.loop-x.x 3 c.note_three.new.work = noting_three _ _ low _ _ _ _ c.requires.2 _ _ _ c.loop-x.invariant.1
+    let low = λ (k x : ℕ) (l : k < 3). bucket_by_lt c.args.hashes c.args.buckets k x c.requires.0 in
+    let noted_here = noting_three _ _ low _ _ _ _ c.requires.2 _ _ _ c.loop-x.invariant.1
     (c.note_three.ensures ∙ ap (noted_in _ _ _ _ _) c.three-t.ensures) in
     let room = counter_of _ _ low c.args.s c.note_three.new.work c.loop-x.x
     (omega (arith, c.requires.2.room, noted_here.long)) in
@@ -47,9 +45,8 @@ enter-requires c =
 
 pub loop-x-preserved : goal.loop-x-preserved
 loop-x-preserved c =
-    let low : (k x : ℕ) → k < 3 → bucket_by c.args.hashes c.args.buckets k x < c.args.buckets = λ k x l. bucket_by_lt _ _ k x c.requires.0 in
-    let noted_here : let a = c.args in
-    Noting (bucket_by a.hashes a.buckets) a.buckets a.s a.points.now a.work.now c.loop-x.x 3 c.note_three.new.work = noting_three _ _ low _ _ _ _ c.requires.2 _ _ _ c.loop-x.invariant.1
+    let low = λ (k x : ℕ) (l : k < 3). bucket_by_lt c.args.hashes c.args.buckets k x c.requires.0 in
+    let noted_here = noting_three _ _ low _ _ _ _ c.requires.2 _ _ _ c.loop-x.invariant.1
     (c.note_three.ensures ∙ ap (noted_in _ _ _ _ _) c.three-t.ensures) in (
       omega (arith, c.loop-x-test.true),
       noting_enter _ _ low _ _ _ _ c.requires.2 _ _ _ noted_here
@@ -58,7 +55,7 @@ loop-x-preserved c =
 
 pub returns : goal.returns
 returns c =
-    let low : (k x : ℕ) → k < 3 → bucket_by c.args.hashes c.args.buckets k x < c.args.buckets = λ k x l. bucket_by_lt _ _ k x c.requires.0 in
+    let low = λ (k x : ℕ) (l : k < 3). bucket_by_lt c.args.hashes c.args.buckets k x c.requires.0 in
     noting_done _ _ low _ _ _ _ c.requires.2 _ _ c.loop-x.invariant.1 (omega arith)
 
 pub overflow_add-x : goal.overflow_add-x
