@@ -4,4 +4,4 @@ use Rattle.words.proofs.Word.to_bytes.Goals as goal
 
 pub returns : goal.returns
 unfolding word_bytes le_bytes
-returns c = rw (c.split-lo.ensures, c.split-hi.ensures)
+returns c = rw (c.copy_from_slice-2.ensures.after, c.copy_from_slice.ensures.after, c.split.ensures, c.split-2.ensures)

@@ -1,8 +1,7 @@
--- `words::bytes::split` meets its contract: it is `le_bytes 8`, opened. Assumes nothing.
-use Rattle.std.proofs.Common.{refl}
-use Rattle.words.specs.Bytes.{le_bytes}
+-- `words::bytes::split` meets its contract: the library's bytes are `le_bytes`. Assumes nothing.
+use Rattle.std.proofs.Common.{◌∙◌}
+use Rattle.words.proofs.ByteLaws.{low_first}
 use Rattle.words.proofs.bytes.split.Goals as goal
 
 pub returns : goal.returns
-unfolding le_bytes
-returns c = refl
+returns c = c.to_le_bytes.ensures ∙ low_first 8 c.args.x

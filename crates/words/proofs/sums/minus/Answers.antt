@@ -1,7 +1,8 @@
--- `words::sums::minus` meets its contract: what the library promises of the result settles it. Assumes nothing.
-use Rattle.std.proofs.Common.{rules}
-use Rattle.words.proofs.RingLaws.{sub_unique}
+-- `words::sums::minus` meets its contract: a number below 2^64 is its own remainder. Assumes nothing.
+use Rattle.std.proofs.Common.{ℕ, ◌+◌, ◌-◌, ◌%◌, ◌^◌, sym, ap, mod-eq_of_lt, rules}
+use Rattle.words.specs.Ring.{sub}
 use Rattle.words.proofs.sums.minus.Goals as goal
 
 pub returns : goal.returns
-returns c = sub_unique 64 _ _ _ (search rules) c.wrapping_sub_u64.ensures.value
+unfolding sub
+returns c = ap (λ (n : ℕ). (c.args.a + (2 ^ 64 - n)) % 2 ^ 64) (sym (mod-eq_of_lt (search rules)))
