@@ -1,7 +1,7 @@
--- `cipher::expand::next_word` meets its contract, in each fourth word and in the others. Assumes nothing.
+-- `cipher::expand::next_word` meets its contract in each fourth word. Assumes nothing.
 use mathlib.Core.Path.{ap, ◌∙◌}
 use lib.Bits.{bit_xor}
-use borrow.Author.Tests.{eq-eqb, ne_eqb}
+use borrow.Author.Tests.{eq-eqb}
 use Rattle.cipher.specs.Fips197.{rot_word, sub_word, next_word}
 use Rattle.cipher.proofs.Packed.{packed_add}
 use Rattle.cipher.proofs.BlockSteps.{diagonal_same}
@@ -18,10 +18,3 @@ returns-then-i-eq0 c =
     (packed_add back.result (bit_xor subbed.result c.rcon.result) back.ensures
     (packed_add subbed.result c.rcon.result (subbed.ensures ∙ ap sub_word (diagonal_same turned.result ∙ word))
     c.rcon.ensures))
-
-pub returns : goal.returns
-unfolding next_word
-returns c =
-    let back = c.key_column-back in
-    let last = c.key_column-last in
-    simp (ne_eqb _ _ c.if-i-eq0.false) (packed_add back.result last.result back.ensures last.ensures)

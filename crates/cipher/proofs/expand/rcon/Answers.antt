@@ -6,8 +6,11 @@ use Prim.Native.Nat.{ℕ, ◌-◌, ◌<◌}
 use native.Mathlib.Omega.{arith}
 use lib.Dec.{eqb, eqb→eq}
 use lib.ListN.{get_or}
+use Rattle.words.specs.Bytes.{le_bytes}
 use Rattle.cipher.specs.Fips197.{power}
 use Rattle.cipher.proofs.EveryByte.{at-below}
+use Rattle.cipher.proofs.KeysAreBytes.{power_lt}
+use Rattle.cipher.proofs.Packed.{small_bytes}
 use Rattle.cipher.proofs.expand.rcon.Goals as goal
 
 powers : List ℕ
@@ -23,4 +26,6 @@ rule n h = eqb→eq (get_or powers n 0) (power n) (at-below 10 right tt n h)
 
 pub returns : goal.returns
 unfolding powers
-returns c = c.column.ensures ∙ ap (λ (x : ℕ). x ∷ 0 ∷ 0 ∷ 0 ∷ []) (rule (c.args.i - 1) (omega arith))
+returns c =
+    let i = c.args.i in
+    ap (le_bytes 4) (c.from.ensures ∙ rule (i - 1) (omega arith)) ∙ small_bytes (power (i - 1)) (power_lt (i - 1))
