@@ -1,59 +1,55 @@
 -- `placement::lay_out` meets its contract: placing is refused, or the pass notes sizes and positions in the zeros behind what
 -- was placed. Assumes nothing.
-use Rattle.placement.specs.declared.Placed.{Placed}
-use mathlib.Core.Path.{◌≡◌, ◌∙◌}
-use mathlib.Core.List.{List, ◌++◌}
-use Prim.Native.Nat.{ℕ, ◌+◌, ◌<◌}
+use mathlib.Core.Path.{refl, sym, ◌∙◌}
+use Prim.Native.Nat.{ℕ, ◌<◌}
 use native.Mathlib.Omega.{arith}
-use lib.ListN.{length, replicate}
 use Rattle.bucket_hash.specs.BucketHash.{bucket_by}
 use Rattle.bucket_hash.proofs.BucketsBelow.{bucket_by_lt}
-use Rattle.placement.specs.Passes.{cells}
-use Rattle.placement.specs.Calls.{placed, walk_in, placing_with}
-use Rattle.placement.proofs.PointLaws.{Placeable, placeable-clear}
-use Rattle.placement.proofs.CallLaws.{over_two, placed_otherwise, placed-clear, placed-hand, placed-scratch, placed_onward}
+use Rattle.words.proofs.RefusalsTold.{refusals_told}
+use Rattle.placement.proofs.LimitLaws.{handed_on}
+use Rattle.placement.proofs.PointLaws.{placeable-clear}
+use Rattle.placement.proofs.CallLaws.{over_two, placed_otherwise, over_tested, placed-refused, placed-clear, placed-hand, placed-scratch, placed_onward}
 use Rattle.placement.proofs.LayLaws.{lay_fresh, laid}
 use Rattle.placement.proofs.lay_out.Goals as goal
 
--- what placing with two more buckets' worth of scratch says, and what it says where it placed
-module _ (h : ℕ → ℕ → ℕ) (D B : ℕ) (pts scratch : List ℕ) where
-  abbrev Placing : Placed → List ℕ → Type 0
-  Placing r l = placed r l
-      ≡ placing_with h D B pts (B + length pts + B + B) (cells (walk_in h B pts) ++ replicate (B + B) 0) scratch
+pub returns-in_err-functions : goal.returns-in_err-functions
+returns-in_err-functions c =
+    rw (handed_on _ c.from_residual.ensures.1)
+    (placed-refused _ _ _ _ _ _ _ _ (over_tested _ _ _ _ c.in_err-functions.ensures.told (omega arith))
+    (λ z. absurd (omega (arith, refusals_told.some c.in_err-functions.field-0.0))))
 
-  facts : {r : Placed} {l : List ℕ} → Placing r l → r.number ≡ 0 → Placeable D B pts (length scratch) (B + length pts + B + B)
-  facts answer none = placeable-clear _ _ _ _ _ (placed-clear _ _ _ _ _ _ _ _ _ answer none)
+pub place-requires : goal.place-requires
+place-requires c =
+    let f = c.in_ok-functions.ensures in
+    let m = f.places.0 in
+    rw (m.domain, m.buckets) (omega arith, f.places.1, f.places.2, sym f.told)
 
-pub returns-then-done-ne0 : goal.returns-then-done-ne0
-returns-then-done-ne0 c =
-    let answer = c.place_over-done.ensures ∙ over_two _ _ _ _ _ _ (omega arith) in
-    placed_otherwise _ _ _ _ _ _ _ _ _ answer _ c.if-done-ne0.true
+pub returns-in_err-evictions : goal.returns-in_err-evictions
+returns-in_err-evictions c =
+    let m = c.in_ok-functions.ensures.places.0 in
+    let answer = (rw (m.hashes, m.domain, m.buckets) at c.in_err-evictions.ensures) ∙ over_two _ _ _ _ _ _ (omega arith) in
+    rw (handed_on _ c.from_residual-in_err-evictions.ensures.1)
+    (placed_otherwise _ _ _ _ _ _ _ _ _ answer _ (λ z. absurd (omega (arith, refusals_told.some c.in_err-evictions.field-0.0))))
+
+pub overflow_add-s : goal.overflow_add-s
+overflow_add-s c = omega (arith, c.in_ok-functions.functions.few, c.in_ok-functions.ensures.places.0.buckets, c.in_ok-functions.ensures.places.1)
 
 pub sizes_and_positions-requires : goal.sizes_and_positions-requires
 sizes_and_positions-requires c =
+    let m = c.in_ok-functions.ensures.places.0 in
     let h : ℕ → ℕ → ℕ = bucket_by c.args.hashes c.args.buckets in
-    let answer = c.place_over-done.ensures ∙ over_two _ _ _ _ _ _ (omega arith) in
-    let none = c.if-done-ne0.false in
-    let f = facts h _ _ _ _ answer none in
-    let low = λ (k x : ℕ) (l : k < 3). bucket_by_lt c.args.hashes c.args.buckets k x f.some in (
-      f.some,
-      omega (arith, f.domain),
-      lay_fresh _ _ low _ (placed-hand _ _ _ _ _ _ _ _ _ answer none) _ _ f _ (placed-scratch _ _ _ _ _ _ _ _ _ answer none),
-    )
+    let answer = (rw (m.hashes, m.domain, m.buckets) at c.in_ok-evictions.ensures) ∙ over_two _ _ _ _ _ _ (omega arith) in
+    let f = placeable-clear _ _ _ _ _ (placed-clear _ _ _ _ _ _ _ _ _ answer refl) in
+    let low = λ (k x : ℕ) (l : k < 3). bucket_by_lt c.args.hashes c.args.buckets k x f.some in
+    rw (m.hashes, m.domain, m.buckets)
+    (lay_fresh _ _ low _ (placed-hand _ _ _ _ _ _ _ _ _ answer refl) _ _ f _ (placed-scratch _ _ _ _ _ _ _ _ _ answer refl))
 
 pub returns : goal.returns
 returns c =
-    let h : ℕ → ℕ → ℕ = bucket_by c.args.hashes c.args.buckets in
-    let answer = c.place_over-done.ensures ∙ over_two _ _ _ _ _ _ (omega arith) in
-    let none = c.if-done-ne0.false in
-    let f = facts h _ _ _ _ answer none in
+    let m = c.in_ok-functions.ensures.places.0 in
+    let answer = (rw (m.hashes, m.domain, m.buckets) at c.in_ok-evictions.ensures) ∙ over_two _ _ _ _ _ _ (omega arith) in
+    let f = placeable-clear _ _ _ _ _ (placed-clear _ _ _ _ _ _ _ _ _ answer refl) in
     let low = λ (k x : ℕ) (l : k < 3). bucket_by_lt c.args.hashes c.args.buckets k x f.some in
-    placed_onward _ _ _ _ _ _ _ _ _ answer none _ _
-    (laid _ _ low _ (placed-hand _ _ _ _ _ _ _ _ _ answer none) _ _ f _ _ (placed-scratch _ _ _ _ _ _ _ _ _ answer none)
-    c.sizes_and_positions.ensures)
-
-pub overflow_add-b : goal.overflow_add-b
-overflow_add-b c =
-    let h : ℕ → ℕ → ℕ = bucket_by c.args.hashes c.args.buckets in
-    let f = facts h _ _ _ _ (c.place_over-done.ensures ∙ over_two _ _ _ _ _ _ (omega arith)) c.if-done-ne0.false in
-    omega (arith, f.few, f.within)
+    placed_onward _ _ _ _ _ _ _ _ _ answer refl _ _
+    (laid _ _ low _ (placed-hand _ _ _ _ _ _ _ _ _ answer refl) _ _ f _ _ (placed-scratch _ _ _ _ _ _ _ _ _ answer refl)
+    (rw (m.hashes, m.domain, m.buckets) at c.sizes_and_positions.ensures))

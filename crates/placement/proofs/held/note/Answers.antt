@@ -1,25 +1,16 @@
 -- `placement::held::note` meets its contract: the label says whether the bucket holds the cell. Assumes nothing.
-use Prim.Native.Nat.{◌-◌, ◌<◌}
+use mathlib.Core.Path.{sym, ap, ◌∙◌}
+use Prim.Native.Nat.{◌<◌}
+use native.Mathlib.Numerals.{add-one}
 use native.Mathlib.Omega.{arith}
-use lib.ListN.{length, get_or}
-use Rattle.placement.proofs.NoteLaws.{noted-none, noted_not, noted_yes, whole}
+use lib.ListN.{length}
+use Rattle.placement.specs.Passes.{label}
 use Rattle.placement.proofs.held.note.Goals as goal
-
-pub returns-then-holder-eq0 : goal.returns-then-holder-eq0
-returns-then-holder-eq0 c = noted-none _ _ _ _ _ _ c.if-holder-eq0.true
 
 pub offset_bounds-points-p : goal.offset_bounds-points-p
 offset_bounds-points-p c =
-    let named : get_or c.args.work.now c.args.c 0 - 1 < length c.args.points.now = c.requires.3.at _ _ c.requires.0 (whole _ c.if-holder-eq0.false) in
+    let named : c.in-Some.p < length c.args.points.now = c.requires.3.at _ _ c.requires.0 (sym c.point_of.ensures ∙ ap label c.in-Some.is ∙ add-one _) in
     omega (arith, named)
 
 pub bounds-points-p : goal.bounds-points-p
-bounds-points-p c =
-    let named : get_or c.args.work.now c.args.c 0 - 1 < length c.args.points.now = c.requires.3.at _ _ c.requires.0 (whole _ c.if-holder-eq0.false) in
-    named
-
-pub returns-then-points-p : goal.returns-then-points-p
-returns-then-points-p c = noted_yes _ _ _ _ _ _ _ (whole _ c.if-holder-eq0.false) c.if-points-p.true
-
-pub returns-else-points-p : goal.returns-else-points-p
-returns-else-points-p c = noted_not _ _ _ _ _ _ _ (whole _ c.if-holder-eq0.false) c.if-points-p.false
+bounds-points-p c = c.requires.3.at _ _ c.requires.0 (sym c.point_of.ensures ∙ ap label c.in-Some.is ∙ add-one _)
