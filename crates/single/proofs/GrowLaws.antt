@@ -70,11 +70,10 @@ pub record Growing (g : Bool → Word → Word) (next : ℕ) (l0 : List ℕ) (i 
   pub nodes : l ≡ put l0 (2 * (2 * i)) (nodes_from (grown g l0) (2 * i) (next - 2 * i))
 
 module _ (g : Bool → Word → Word) (next : ℕ) (l0 : List ℕ) (room : 2 * next ≤ length l0) where
-  pub growing_none : Growing g next l0 (next / 2 + next % 2) l0
+  pub growing_none : (i : ℕ) → next ≤ 2 * i → 2 * i ≤ next + 1 → Growing g next l0 i l0
   unfolding nodes_from
-  growing_none =
-      let i = next / 2 + next % 2 in
-      let none : next - 2 * (next / 2 + next % 2) ≡ 0 = omega arith in
+  growing_none i all few =
+      let none : next - 2 * i ≡ 0 = omega arith in
       record { within = omega arith; long = refl; nodes = rw none (sym (put_nil l0 _)) }
 
   -- both children are written: the node itself is still as it was, and its children stand right before those of the next

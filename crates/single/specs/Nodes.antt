@@ -5,12 +5,13 @@
 --     children n i x y       the children x and y of node i as they stand in a layer of n nodes; y only where the layer has it
 --     layer g n l            l with the n nodes of the next layer in place of its own
 --     spread f n             the numbers f 0 .. f (n - 1) as low halves, each with a high half of 0
+--     laid op f t            each cell x of t under op with f x: `added w` of words is this for the sums modulo 2 ^ w
 -- Assumes nothing.
-use Rattle.std.specs.Prelude.{Bool, cond, List, [], ◌∷◌, ℕ, zero, suc, ◌+◌, ◌*◌, ◌/◌, ltb}
+use Rattle.std.specs.Prelude.{Bool, cond, List, [], ◌∷◌, ℕ, zero, suc, ◌+◌, ◌*◌, ◌/◌, ltb, length, get_or}
 use Rattle.words.specs.declared.Word.{Word}
 use Rattle.words.specs.Word.{is_odd}
 use Rattle.words.specs.Bytes.{put}
-use Rattle.words.specs.Cells.{word_no}
+use Rattle.words.specs.Cells.{tab, word_no}
 
 unfoldable pub nodes_from : (ℕ → Word) → ℕ → ℕ → List ℕ
 nodes_from f i zero = []
@@ -35,3 +36,6 @@ low_word x = record { lo = x; hi = 0 }
 
 unfoldable pub spread : (ℕ → ℕ) → ℕ → List ℕ
 spread f n = nodes_from (λ x. low_word (f x)) 0 n
+
+unfoldable pub laid : (ℕ → ℕ → ℕ) → (ℕ → ℕ) → List ℕ → List ℕ
+laid op f t = tab (λ x. op (get_or t x 0) (f x)) (length t)

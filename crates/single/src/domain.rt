@@ -1,31 +1,22 @@
 // The whole domain of a key, layer by layer in place. Node i stands at 2i, low half, and 2i + 1, high half; the children of
 // node i are nodes 2i and 2i + 1 of the next layer. A layer is grown from its last node to its first, so that a node is read
 // before its place is written. Meanings: specs/Nodes.antt.
-ghost use Rattle.std.specs.Prelude.{◌≡◌, [], ◌∷◌, ◌+◌, ◌-◌, ◌*◌, ◌/◌, ◌≤◌, ◌<◌, length};
+// Kept: nodes two by two in u64; what may not change (`bare::spread_record` is lent such a slice, and its clause says what stands in it).
+ghost use Rattle.std.specs.Prelude.{◌≡◌, Bool, true, false, [], ◌∷◌, ◌+◌, ◌-◌, ◌*◌, ◌/◌, ◌≤◌, ◌<◌, length};
+ghost use Rattle.words.specs.declared.Word.{Word};
 ghost use Rattle.words.specs.Bytes.{put};
-ghost use Rattle.words.specs.Cells.{word_no};
 ghost use Rattle.cipher.specs.TreeHash.{hash_by};
 ghost use Rattle.single.specs.Rules as rule;
-ghost use Rattle.single.specs.Keys.{words_of, record_of, worth, Sound};
+ghost use Rattle.single.specs.Keys.{words_of, record_of, worth};
 ghost use Rattle.single.specs.Nodes.{nodes_from, children, layer, low_word, spread};
 
-use crate::SingleKey;
+use crate::held::Held;
 use crate::tree::{End, end_in, moved, share_of};
 use cipher::TreeHash;
 use words::Word;
+use words::cells::word_no;
 
 // ---- nodes
-
-// Node i.
-fn get_node(nodes: &[u64], i: usize) -> Word
-    requires { 2 * i + 1 < length nodes.now }
-    ensures { result ≡ word_no nodes.now i }
-{
-    Word {
-        lo: nodes[2 * i],
-        hi: nodes[2 * i + 1],
-    }
-}
 
 // Stores node i.
 fn set_node(nodes: &mut [u64], i: usize, w: Word)
@@ -47,84 +38,92 @@ fn set_children(nodes: &mut [u64], i: usize, next: usize, left: Word, right: Wor
     }
 }
 
-// ---- the layers but the last
+// ---- one layer
 
-// The next layer, of `next` nodes, in place of this one; the children of a node come from one hash. This is the function to
-// replace where many nodes are hashed at once.
-fn expand_layer(h: TreeHash, cw: Word, next: usize, nodes: &mut [u64])
-    requires { 2 * next ≤ length nodes.old }
-    ensures { nodes.new ≡ layer (λ a s. rule.step (hash_by h) a cw s) next nodes.old }
-{
-    let mut i: usize = next / 2 + next % 2;
-    while 0 < i {
-        i -= 1;
-        let s = get_node(nodes, i);
-        let x = h.hash(s);
-        set_children(
-            nodes,
-            i,
-            next,
-            moved(x, false, cw, s),
-            moved(x, true, cw, s),
-        );
+// How a layer grows out of the one before.
+trait Grow {
+    ghost child: { Self → Bool → Word → Word };
+
+    // The left child of a node and the right one.
+    fn children(&self, s: Word) -> (Word, Word)
+        ensures { result ≡ (child self.now false s, child self.now true s) };
+}
+
+// By a level but the last: both children come from one hash.
+#[derive(Clone, Copy)]
+struct Inner {
+    h: TreeHash,
+    cw: Word,
+}
+
+// By the last level: the shares of both cells, a hash each.
+#[derive(Clone, Copy)]
+struct Last {
+    h: TreeHash,
+    party: bool,
+    end: End,
+}
+
+impl Grow for Inner {
+    ghost child = { λ g a s. rule.step (hash_by g.h) a g.cw s };
+
+    #[tactic(auto, unfolding(crate::specs::Rules::step))]
+    fn children(&self, s: Word) -> (Word, Word) {
+        let x = self.h.hash(s);
+        (moved(x, false, self.cw, s), moved(x, true, self.cw, s))
     }
 }
+
+impl Grow for Last {
+    ghost child = { λ g a s. low_word (worth (hash_by g.h) 64 g.party g.end a s) };
+
+    fn children(&self, s: Word) -> (Word, Word) {
+        let left = share_of(self.h, self.party, self.end, false, s);
+        let right = share_of(self.h, self.party, self.end, true, s);
+        (Word { lo: left, hi: 0 }, Word { lo: right, hi: 0 })
+    }
+}
+
+// The next layer, of `next` nodes, in place of this one. This is the function to replace where many nodes are hashed at once.
+fn expand<G: Grow>(growth: &G, next: usize, nodes: &mut [u64])
+    requires { 2 * next ≤ length nodes.old }
+    ensures { nodes.new ≡ layer (G.child growth.now) next nodes.old }
+{
+    for i in (0..next.div_ceil(2)).rev() {
+        let (left, right) = growth.children(word_no(nodes, i));
+        set_children(nodes, i, next, left, right);
+    }
+}
+
+// ---- all layers
 
 // All layers but the last: the nodes that half of an index leads to.
-fn expand_inner(h: TreeHash, k: SingleKey, nodes: &mut [u64])
-    requires sound { Sound k }
-    requires lt_size { (1 < k.size) × (2 * k.size ≤ length nodes.old) }
+fn expand_inner(h: TreeHash, held: Held, nodes: &mut [u64])
+    requires { (1 < held.key.size) × (2 * held.key.size ≤ length nodes.old) }
     ensures { nodes.new ≡ put nodes.old 0
-        (nodes_from (λ y. rule.descend (hash_by h) y (words_of k) k.seed) 0 ((k.size - 1) / 2 + 1)) }
+        (nodes_from (λ y. rule.descend (hash_by h) y (words_of held.key) held.key.seed) 0 ((held.key.size - 1) / 2 + 1)) }
 {
-    let seed = k.seed;
-    set_node(nodes, 0, seed);
+    let k = held.key;
+    set_node(nodes, 0, k.seed);
     let n = k.count;
     let last = k.size - 1;
-    let mut j: usize = 0;
-    while j < n {
-        let cw = Word {
-            lo: k.lows[j],
-            hi: k.highs[j],
-        };
-        expand_layer(h, cw, (last >> (n - j)) as usize + 1, nodes);
-        j += 1;
-    }
-}
-
-// ---- the last layer
-
-// The shares of all cells in place of the layer before the last, a hash each.
-fn expand_last(h: TreeHash, party: bool, e: End, cells: usize, nodes: &mut [u64])
-    requires { 2 * cells ≤ length nodes.old }
-    ensures { nodes.new ≡ layer (λ a s. low_word (worth (hash_by h) 64 party e a s)) cells nodes.old }
-{
-    let mut i: usize = cells / 2 + cells % 2;
-    while 0 < i {
-        i -= 1;
-        let s = get_node(nodes, i);
-        let left = share_of(h, party, e, false, s);
-        let right = share_of(h, party, e, true, s);
-        set_children(
-            nodes,
-            i,
-            cells,
-            Word { lo: left, hi: 0 },
-            Word { lo: right, hi: 0 },
-        );
+    for j in 0..n {
+        let level = Inner { h, cw: k.word(j) };
+        expand(&level, (last >> (n - j)) as usize + 1, nodes);
     }
 }
 
 // The shares of the whole domain, each as a node: the share at 2x, 0 at 2x + 1.
-pub(crate) fn spread_shares(h: TreeHash, party: bool, k: SingleKey, nodes: &mut [u64])
-    requires sound { Sound k }
-    requires size_in_bounds { 2 * k.size ≤ length nodes.old }
-    ensures { nodes.new ≡ put nodes.old 0 (spread (rule.share (hash_by h) 64 party (record_of k)) k.size) }
+pub(crate) fn spread_shares(h: TreeHash, party: bool, held: Held, nodes: &mut [u64])
+    requires { 2 * held.key.size ≤ length nodes.old }
+    ensures { nodes.new ≡ put nodes.old 0 (spread (rule.share (hash_by h) 64 party (record_of held.key)) held.key.size) }
 {
+    let k = held.key;
     if k.size == 1 {
         set_node(nodes, 0, Word { lo: k.last, hi: 0 });
         return;
     }
-    expand_inner(h, k, nodes);
-    expand_last(h, party, end_in(k), k.size as usize, nodes);
+    expand_inner(h, held, nodes);
+    let end = end_in(k);
+    expand(&Last { h, party, end }, k.size as usize, nodes);
 }

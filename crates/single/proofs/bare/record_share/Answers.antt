@@ -1,34 +1,23 @@
 -- `single::bare::record_share` meets its contract: the key that the record is read into holds that record. Assumes nothing.
-use mathlib.Core.Path.{◌≡◌, sym, ap, ◌∙◌}
-use Prim.Native.Nat.{ℕ}
-use Rattle.words.proofs.TestLaws.{succeeded, refused}
+use Rattle.std.proofs.Common.{◌≡◌, rules, Err}
 use Rattle.cipher.specs.TreeHash.{hash_by}
-use Rattle.single.specs.declared.SingleKey.{SingleKey}
-use Rattle.single.specs.declared.calls.Share.{Share}
-use Rattle.single.specs.Rules as rule
-use Rattle.single.specs.Keys.{record_of}
-use Rattle.single.specs.Bare.{record_share_number, record_share}
-use Rattle.single.proofs.KeyLaws.{sound-few, record_back}
-use Rattle.single.proofs.BareLaws.{sound_in, share-clear}
+use Rattle.single.proofs.BareLaws.{share_no_key, share_no_index, share_done}
 use Rattle.single.proofs.bare.record_share.Goals as goal
 
-pub returns-then-number-ne0 : goal.returns-then-number-ne0
-unfolding record_share
-returns-then-number-ne0 c = rw (← c.share_number-number.ensures) (sym (refused _ _ _ c.if-number-ne0.true))
+pub returns-in_err-held : goal.returns-in_err-held
+returns-in_err-held c =
+    let e = c.in_err-held.field-0.0 in
+    let r : c.from_residual.result ≡ Err e = search rules in
+    rw r (share_no_key _ _ _ _ e c.in_err-held.ensures.0 c.in_err-held.ensures.1)
 
-pub get_key-requires : goal.get_key-requires
-get_key-requires c = share-clear _ _ (sym c.share_number-number.ensures ∙ c.if-number-ne0.false)
-
-pub share-share-requires : goal.share-share-requires
-share-share-requires c =
-    let ok = share-clear _ _ (sym c.share_number-number.ensures ∙ c.if-number-ne0.false) in
-    sound-few (rw (← c.get_key.ensures) at (sound_in _ ok))
+pub returns-then-held-index : goal.returns-then-held-index
+returns-then-held-index c =
+    let a = c.args in
+    let q = c.in_ok-held.ensures in
+    share_no_index (hash_by a.h) a.party a.bare.now a.index q.0 q.1 c.if-held-index.true
 
 pub returns : goal.returns
-unfolding record_share
 returns c =
     let a = c.args in
-    let none : record_share_number a.bare.now a.index ≡ 0 = sym c.share_number-number.ensures ∙ c.if-number-ne0.false in
-    let value = c.share-share.ensures ∙ ap (λ (k : SingleKey). rule.share (hash_by a.h) 64 a.party (record_of k) a.index) c.get_key.ensures
-    ∙ ap (λ (r : rule.Record). rule.share (hash_by a.h) 64 a.party r a.index) (record_back _) in
-    ap {B = Share} (λ (v : ℕ). record { number = 0; share = v }) value ∙ sym (succeeded _ _ _ none)
+    let q = c.in_ok-held.ensures in
+    share_done (hash_by a.h) a.party a.bare.now a.index q.0 q.1 c.if-held-index.false c.share.ensures

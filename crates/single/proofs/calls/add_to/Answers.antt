@@ -1,49 +1,37 @@
--- `single::calls::add_to` meets its contract: a refusal leaves both slices; past it the shares are spread in the scratch and
--- added from there, and the scratch is zeroed. Assumes nothing.
-use mathlib.Core.Path.{◌≡◌, sym, ◌∙◌}
-use native.Mathlib.Omega.{arith}
-use lib.ListN.{length}
+-- `single::calls::add_to` meets its contract: a refusal leaves both slices; past it the shares are added to the table. Assumes
+-- nothing.
+use Rattle.std.proofs.Common.{◌≡◌, rules, arith, Err}
 use Rattle.cipher.specs.TreeHash.{tree_hash}
-use Rattle.single.specs.Calls.{add_to_number, add_to}
-use Rattle.single.proofs.CallLaws.{AddClear, add-clear, swept-refused}
+use Rattle.single.specs.Rules.{share}
+use Rattle.single.specs.Keys.{record_of}
+use Rattle.single.proofs.CallLaws.{image-size, image-share, add_no_image, add_no_table, add_no_scratch, add_clear}
 use Rattle.single.proofs.SpreadLaws.{add_from}
 use Rattle.single.proofs.calls.add_to.Goals as goal
 
-pub returns-then-number-ne0 : goal.returns-then-number-ne0
-unfolding add_to
-returns-then-number-ne0 c = swept-refused _ _ _ _ c.add_to_number-number.ensures c.if-number-ne0.true
+pub returns-in_err-image : goal.returns-in_err-image
+returns-in_err-image c =
+    let e = c.in_err-image.field-0.0 in
+    let r : c.from_residual.result ≡ Err e = search rules in
+    rw r (add_no_image tree_hash _ _ _ e c.in_err-image.ensures.0 c.in_err-image.ensures.1)
 
-pub add_shares-requires : goal.add_shares-requires
-add_shares-requires c =
-    let none : let a = c.args in
-    add_to_number a.key.now (length a.table.now) (length a.scratch.now) ≡ 0 = sym c.add_to_number-number.ensures ∙ c.if-number-ne0.false in
-    let clear : let a = c.args in
-    AddClear a.key.now (length a.table.now) (length a.scratch.now) = add-clear _ _ _ none in
-    omega (arith, clear.whole, clear.enough)
+pub returns-then-table-size : goal.returns-then-table-size
+returns-then-table-size c =
+    let a = c.args in
+    let q = c.in_ok-image.ensures in
+    add_no_table tree_hash a.key.now a.scratch.now a.table.now q.0 (image-size tree_hash a.key.now q.1 q.2) c.if-table-size.true
 
-pub overflow_mul-table : goal.overflow_mul-table
-overflow_mul-table c =
-    let none : let a = c.args in
-    add_to_number a.key.now (length a.table.now) (length a.scratch.now) ≡ 0 = sym c.add_to_number-number.ensures ∙ c.if-number-ne0.false in
-    let clear : let a = c.args in
-    AddClear a.key.now (length a.table.now) (length a.scratch.now) = add-clear _ _ _ none in
-    omega (arith, clear.whole, clear.enough)
+pub returns-then-scratch-size : goal.returns-then-scratch-size
+returns-then-scratch-size c =
+    let a = c.args in
+    let q = c.in_ok-image.ensures in
+    add_no_scratch tree_hash a.key.now a.scratch.now a.table.now q.0 (image-size tree_hash a.key.now q.1 q.2) (omega arith) (omega arith)
 
 pub returns : goal.returns
 returns c =
-    let none : let a = c.args in
-    add_to_number a.key.now (length a.table.now) (length a.scratch.now) ≡ 0 = sym c.add_to_number-number.ensures ∙ c.if-number-ne0.false in
-    let clear : let a = c.args in
-    AddClear a.key.now (length a.table.now) (length a.scratch.now) = add-clear _ _ _ none in
     let a = c.args in
-    add_from tree_hash a.key.now a.scratch.now c.spread_image.ensures _ c.zero_first.ensures
-    (omega (arith, clear.whole)) a.table.now
-    none c.add_shares.ensures
-
-pub spread_image-requires : goal.spread_image-requires
-spread_image-requires c =
-    let none : let a = c.args in
-    add_to_number a.key.now (length a.table.now) (length a.scratch.now) ≡ 0 = sym c.add_to_number-number.ensures ∙ c.if-number-ne0.false in
-    let clear : let a = c.args in
-    AddClear a.key.now (length a.table.now) (length a.scratch.now) = add-clear _ _ _ none in
-    (clear.ok, clear.enough)
+    let i = c.in_ok-image.image in
+    let q = c.in_ok-image.ensures in
+    let size = image-size tree_hash a.key.now q.1 q.2 in
+    let made = c.lay_shares.ensures in
+    add_from tree_hash a.key.now a.scratch.now (share tree_hash 64 i.party (record_of i.held.key)) (image-share tree_hash a.key.now q.1 q.2) size made.scratch a.table.now
+    (add_clear tree_hash a.key.now a.scratch.now a.table.now q.0 size (omega arith) (omega arith)) made.cells

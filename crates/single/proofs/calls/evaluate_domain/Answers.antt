@@ -1,49 +1,45 @@
--- `single::calls::evaluate_domain` meets its contract: a refusal leaves both slices; past it the shares are spread in the
--- scratch and written out from there, and the scratch is zeroed. Assumes nothing.
-use mathlib.Core.Path.{◌≡◌, sym, ◌∙◌}
-use native.Mathlib.Omega.{arith}
-use lib.ListN.{length}
+-- `single::calls::evaluate_domain` meets its contract: a refusal leaves both slices; past it the shares are written in front of the
+-- output. Assumes nothing.
+use Rattle.std.proofs.Common.{◌≡◌, sym, rules, arith, Err}
+use Rattle.std.proofs.lemmas.List.{length-take-le}
 use Rattle.cipher.specs.TreeHash.{tree_hash}
-use Rattle.single.specs.Calls.{evaluate_domain_number, evaluate_domain}
-use Rattle.single.proofs.CallLaws.{DomainClear, domain-clear, swept-refused}
+use Rattle.single.specs.Rules.{share}
+use Rattle.single.specs.Keys.{record_of}
+use Rattle.single.proofs.CallLaws.{image-size, image-share, domain_no_image, domain_no_scratch, domain_no_room, domain_clear}
 use Rattle.single.proofs.SpreadLaws.{domain_from}
 use Rattle.single.proofs.calls.evaluate_domain.Goals as goal
 
-pub returns-then-number-ne0 : goal.returns-then-number-ne0
-unfolding evaluate_domain
-returns-then-number-ne0 c = swept-refused _ _ _ _ c.evaluate_domain_number-number.ensures c.if-number-ne0.true
+pub returns-in_err-image : goal.returns-in_err-image
+returns-in_err-image c =
+    let e = c.in_err-image.field-0.0 in
+    let r : c.from_residual.result ≡ Err e = search rules in
+    rw r (domain_no_image tree_hash _ _ _ e c.in_err-image.ensures.0 c.in_err-image.ensures.1)
 
-pub write_shares-requires : goal.write_shares-requires
-write_shares-requires c =
-    let none : let a = c.args in
-    evaluate_domain_number a.key.now (length a.scratch.now) (length a.out.now) ≡ 0 = sym c.evaluate_domain_number-number.ensures ∙ c.if-number-ne0.false in
-    let clear : let a = c.args in
-    DomainClear a.key.now (length a.scratch.now) (length a.out.now) = domain-clear _ _ _ none in
-    let size = c.size_of-n.ensures in
-    (omega (arith, clear.enough), omega (arith, clear.fits))
+pub returns-then-scratch-size : goal.returns-then-scratch-size
+returns-then-scratch-size c =
+    let a = c.args in
+    let q = c.in_ok-image.ensures in
+    domain_no_scratch tree_hash a.key.now a.scratch.now a.out.now q.0 (image-size tree_hash a.key.now q.1 q.2) (omega arith)
 
-pub overflow_mul-n : goal.overflow_mul-n
-overflow_mul-n c =
-    let none : let a = c.args in
-    evaluate_domain_number a.key.now (length a.scratch.now) (length a.out.now) ≡ 0 = sym c.evaluate_domain_number-number.ensures ∙ c.if-number-ne0.false in
-    let clear : let a = c.args in
-    DomainClear a.key.now (length a.scratch.now) (length a.out.now) = domain-clear _ _ _ none in
-    omega (arith, clear.enough, c.size_of-n.ensures)
+pub returns-then-out-size : goal.returns-then-out-size
+returns-then-out-size c =
+    let a = c.args in
+    let q = c.in_ok-image.ensures in
+    domain_no_room tree_hash a.key.now a.scratch.now a.out.now q.0 (image-size tree_hash a.key.now q.1 q.2) (omega arith) (omega arith)
+
+pub lay_shares-requires : goal.lay_shares-requires
+lay_shares-requires c =
+    let front = length-take-le c.in_ok-image.image.held.key.size c.args.out.now (omega arith) in (front, omega arith)
+
+pub slice_bounds-lay_shares-end-2 : goal.slice_bounds-lay_shares-end-2
+slice_bounds-lay_shares-end-2 c = sym (length-take-le _ _ (omega arith))
 
 pub returns : goal.returns
 returns c =
-    let none : let a = c.args in
-    evaluate_domain_number a.key.now (length a.scratch.now) (length a.out.now) ≡ 0 = sym c.evaluate_domain_number-number.ensures ∙ c.if-number-ne0.false in
     let a = c.args in
-    let size = c.size_of-n.ensures in
-    domain_from tree_hash a.key.now a.scratch.now c.spread_image.ensures _ c.zero_first.ensures
-    (omega (arith, size)) a.out.now
-    none (rw size at c.write_shares.ensures)
-
-pub spread_image-requires : goal.spread_image-requires
-spread_image-requires c =
-    let none : let a = c.args in
-    evaluate_domain_number a.key.now (length a.scratch.now) (length a.out.now) ≡ 0 = sym c.evaluate_domain_number-number.ensures ∙ c.if-number-ne0.false in
-    let clear : let a = c.args in
-    DomainClear a.key.now (length a.scratch.now) (length a.out.now) = domain-clear _ _ _ none in
-    (clear.ok, clear.enough)
+    let i = c.in_ok-image.image in
+    let q = c.in_ok-image.ensures in
+    let size = image-size tree_hash a.key.now q.1 q.2 in
+    let made = c.lay_shares.ensures in
+    domain_from tree_hash a.key.now a.scratch.now (share tree_hash 64 i.party (record_of i.held.key)) (image-share tree_hash a.key.now q.1 q.2) size made.scratch a.out.now
+    (domain_clear tree_hash a.key.now a.scratch.now a.out.now q.0 size (omega arith) (omega arith)) (omega arith) made.cells

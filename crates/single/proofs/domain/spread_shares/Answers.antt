@@ -10,11 +10,11 @@ use Rattle.single.proofs.domain.spread_shares.Goals as goal
 pub returns-then-k-eq1 : goal.returns-then-k-eq1
 returns-then-k-eq1 c =
     let a = c.args in
-    spread-one (hash_by a.h) 64 a.party (record_of a.k) a.nodes.now c.if-k-eq1.true c.set_node.ensures
+    spread-one (hash_by a.h) 64 a.party (record_of a.held.key) a.nodes.now c.if-k-eq1.true c.set_node.ensures
 
 pub returns : goal.returns
 returns c =
     let a = c.args in
-    let many : 1 < a.k.size = omega (arith, c.requires.sound.some, c.if-k-eq1.false) in
-    spread-all (hash_by a.h) 64 a.party (record_of a.k) a.nodes.now many c.end_in.ensures c.expand_inner.ensures
-    c.expand_last.ensures
+    let many : 1 < a.held.key.size = omega (arith, a.held.sound.some, c.if-k-eq1.false) in
+    spread-all (hash_by a.h) 64 a.party (record_of a.held.key) a.nodes.now many c.end_in-end.ensures c.expand_inner.ensures
+    c.expand.ensures

@@ -14,8 +14,8 @@ use Rattle.single.proofs.record.get_key.Goals as goal
 pub overflow_sub-count : goal.overflow_sub-count
 overflow_sub-count c = let q = accepted largest_single _ c.requires in omega (arith, q.exact)
 
-pub get_words-cws-requires : goal.get_words-cws-requires
-get_words-cws-requires c =
+pub get_words-requires : goal.get_words-requires
+get_words-requires c =
     let q = accepted largest_single _ c.requires in
     let few = count_most _ q.treed in
     (omega (arith, q.exact), omega (arith, q.exact))
@@ -33,8 +33,8 @@ returns c =
       c.bit-2.ensures,
       c.bit.ensures,
       c.get_u64.ensures,
-      c.get_words-cws.ensures,
+      c.get_words.ensures,
       c.get_u64-lcw.ensures,
-      c.get_word-hcw.ensures,
-      c.get_word-seed.ensures,
+      c.get_word-2.ensures,
+      c.get_word.ensures,
     )

@@ -1,13 +1,29 @@
 -- `single::record::put_head` meets its contract: five stores, each right behind the one before. Assumes nothing.
-use mathlib.Core.Path.{◌≡◌}
+use mathlib.Core.Path.{◌≡◌, ◌∙◌}
 use mathlib.Core.List.{◌++◌}
 use Prim.Native.Nat.{◌+◌}
 use native.Mathlib.Omega.{arith}
 use lib.ListN.{length, length-append}
 use Rattle.words.specs.Bytes.{le_bytes, word_bytes}
-use Rattle.words.proofs.ByteLaws.{length-le_bytes, length-word_bytes, stored-first, stored_next}
+use Rattle.words.proofs.ByteLaws.{length-le_bytes, length-word_bytes, stored-first, stored_next, number_fits}
+use Rattle.words.proofs.RefusalsTold.{is_ok_told}
 use Rattle.single.specs.Record.{head_bytes, lcw_number}
 use Rattle.single.proofs.record.put_head.Goals as goal
+
+pub unwrap-requires : goal.unwrap-requires
+unwrap-requires c = is_ok_told _ (c.put_u64.ensures.answer ∙ number_fits _ _ _ (omega (arith, c, length-le_bytes 8 c.args.key.size)))
+
+pub unwrap-requires-2 : goal.unwrap-requires-2
+unwrap-requires-2 c = is_ok_told _ (c.put_word.ensures.answer ∙ number_fits _ _ _ (omega (arith, c, length-word_bytes c.args.key.seed)))
+
+pub unwrap-requires-3 : goal.unwrap-requires-3
+unwrap-requires-3 c = is_ok_told _ (c.put_word-2.ensures.answer ∙ number_fits _ _ _ (omega (arith, c, length-word_bytes c.args.key.hcw)))
+
+pub unwrap-requires-4 : goal.unwrap-requires-4
+unwrap-requires-4 c = is_ok_told _ (c.put_u64-2.ensures.answer ∙ number_fits _ _ _ (omega (arith, c, length-le_bytes 8 c.lcw_number.result)))
+
+pub unwrap-requires-5 : goal.unwrap-requires-5
+unwrap-requires-5 c = is_ok_told _ (c.put_u64-3.ensures.answer ∙ number_fits _ _ _ (omega (arith, c, length-le_bytes 8 c.args.key.last)))
 
 pub returns : goal.returns
 unfolding head_bytes

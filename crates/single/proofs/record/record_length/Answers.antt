@@ -1,53 +1,34 @@
--- `single::record::record_length` meets its contract: outside the limits there is no height, and 0 is answered. Assumes
--- nothing.
-use mathlib.Core.Path.{◌≡◌, sym, ap, ◌∙◌}
-use Prim.Native.Nat.{ℕ, ◌+◌, ◌*◌, ◌-◌}
-use native.Mathlib.Omega.{arith}
-use Rattle.words.specs.declared.Tree.{Tree}
+-- `single::record::record_length` meets its contract: a size within the limits has a height. Assumes nothing.
+use Rattle.std.proofs.Common.{◌≡◌, ℕ, ◌+◌, ◌*◌, Some, Ok, Bool, T, not, rules, sym, ap, subst, ◌∙◌, arith}
+use Rattle.std.specs.Result.{is_ok}
 use Rattle.words.specs.Height.{height, height_number}
+use Rattle.words.proofs.HeightLaws.{height_told, height_known}
 use Rattle.single.specs.Record.{record_length, word_count}
-use Rattle.single.proofs.RecordLaws.{count_most, length_for_lem, length_none, tree-number, tree-height}
+use Rattle.single.proofs.RecordLaws.{count_most, length_known, length_unknown}
+use Rattle.single.proofs.record.record_length.Goals.{After-saturating_sub}
 use Rattle.single.proofs.record.record_length.Goals as goal
 
-pub returns-then-tree-ne0 : goal.returns-then-tree-ne0
-returns-then-tree-ne0 c =
-    let s = c.args.size in
-    let tree = ap (λ (t : Tree). t.number) c.height-tree.ensures ∙ tree-number s in
-    sym (length_none s (λ e. c.if-tree-ne0.true (tree ∙ e)))
-
-pub returns-then-tree-lt1 : goal.returns-then-tree-lt1
-unfolding record_length
-returns-then-tree-lt1 c =
-    let treed : let s = c.args.size in
-    (height_number s ≡ 0) × (c.height-tree.result.height ≡ height s) = let s = c.args.size in
-    let n : height_number s ≡ 0 = sym (tree-number s) ∙ sym (ap (λ (t : Tree). t.number) c.height-tree.ensures) ∙ c.if-tree-ne0.false in
-    (n, ap (λ (t : Tree). t.height) c.height-tree.ensures ∙ tree-height s n) in
-    let s = c.args.size in
-    let none : word_count s ≡ 0 = omega (arith, treed.1) in
-    sym (length_for_lem s treed.0 ∙ rw none)
+known : (c : After-saturating_sub) → (height_number c.args.size ≡ 0) × (c.in_ok-height.height ≡ height c.args.size)
+known c =
+    let found : c.height.result ≡ Ok c.in_ok-height.height = search rules in
+    height_told _ _ (rw found at c.height.ensures)
 
 pub overflow_mul-result : goal.overflow_mul-result
 overflow_mul-result c =
-    let treed : let s = c.args.size in
-    (height_number s ≡ 0) × (c.height-tree.result.height ≡ height s) = let s = c.args.size in
-    let n : height_number s ≡ 0 = sym (tree-number s) ∙ sym (ap (λ (t : Tree). t.number) c.height-tree.ensures) ∙ c.if-tree-ne0.false in
-    (n, ap (λ (t : Tree). t.height) c.height-tree.ensures ∙ tree-height s n) in
-    omega (arith, treed.1, count_most _ treed.0)
+    let h = known (goal.at.overflow_mul-result c).After-saturating_sub in record { fits = omega (arith, h.1, count_most _ h.0) }
 
 pub overflow_add-result : goal.overflow_add-result
 overflow_add-result c =
-    let treed : let s = c.args.size in
-    (height_number s ≡ 0) × (c.height-tree.result.height ≡ height s) = let s = c.args.size in
-    let n : height_number s ≡ 0 = sym (tree-number s) ∙ sym (ap (λ (t : Tree). t.number) c.height-tree.ensures) ∙ c.if-tree-ne0.false in
-    (n, ap (λ (t : Tree). t.height) c.height-tree.ensures ∙ tree-height s n) in
-    omega (arith, treed.1, count_most _ treed.0)
+    let h = known (goal.at.overflow_add-result c).After-saturating_sub in record { fits = omega (arith, h.1, count_most _ h.0) }
 
 pub returns : goal.returns
 unfolding record_length
 returns c =
-    let treed : let s = c.args.size in
-    (height_number s ≡ 0) × (c.height-tree.result.height ≡ height s) = let s = c.args.size in
-    let n : height_number s ≡ 0 = sym (tree-number s) ∙ sym (ap (λ (t : Tree). t.number) c.height-tree.ensures) ∙ c.if-tree-ne0.false in
-    (n, ap (λ (t : Tree). t.height) c.height-tree.ensures ∙ tree-height s n) in
-    let s = c.args.size in
-    sym (length_for_lem s treed.0 ∙ ap (λ (h : ℕ). 56 + 16 * (h - 1)) (sym treed.1))
+    let h = known (goal.at.returns c).After-saturating_sub in
+    let words : word_count c.args.size ≡ c.saturating_sub.result = omega (arith, h.1) in
+    sym (length_known c.args.size h.0 ∙ ap (λ (n : ℕ). Some (56 + 16 * n)) words)
+
+pub returns-in_err-height : goal.returns-in_err-height
+returns-in_err-height c =
+    c.from_residual.ensures
+    ∙ sym (length_unknown _ (λ e. subst (λ (b : Bool). T (not b)) (c.in_err-height.ensures.variant ∙ ap is_ok (height_known _ _ c.height.ensures e)) tt))

@@ -1,68 +1,55 @@
--- `single::record::record_ok` meets its contract: the tests in their order; where the first two or four hold, the rest decide.
--- Assumes nothing.
-use mathlib.Core.List.{List}
-use Prim.Native.Nat.{ℕ, ◌≤◌}
+-- `single::record::record_ok` meets its contract: a size without a length is refused; past that the other tests decide. Assumes
+-- nothing.
+use mathlib.Core.List.{List, [], ◌∷◌}
+use mathlib.Core.Bool.{Bool, false, true, cond}
+use Prim.Native.Nat.{ℕ}
 use mathlib.Core.Path.{◌≡◌, sym, ap, ◌∙◌}
 use native.Mathlib.Omega.{arith}
-use borrow.Author.Tests.{eq-eqb, ne_eqb, le-leb}
-use lib.ListN.{length, drop}
+use Rattle.std.specs.Prelude.{Some, None}
+use Rattle.std.proofs.lemmas.Grind.{common_steps}
+use borrow.Author.Rules.{rules}
+use borrow.Author.Tests.{eq-eqb, ne_eqb}
+use lib.Dec.{leb, eqb}
+use lib.ListN.{length}
 use Rattle.words.specs.Height.{height_number}
 use Rattle.words.specs.Bytes.{field}
 use Rattle.words.specs.Refusals.{every}
 use Rattle.words.proofs.TestLaws.{every_pass, every_fail}
-use Rattle.single.specs.Record.{size_in, record_length, length_for, record_tests, record_ok}
-use Rattle.single.proofs.RecordLaws.{every_one, length_for_lem, size-treed}
+use Rattle.single.specs.Record.{size_in, length_of, zero_tests, record_tests, record_ok}
+use Rattle.single.proofs.RecordLaws.{length_some, length_out}
 use Rattle.single.proofs.record.record_ok.Goals as goal
 
--- the size and the length that were read, and the tests that are passed by them
-module _ (limit : ℕ) (l : List ℕ) {n s : ℕ} (length_is : n ≡ length_for s) (size_is : s ≡ size_in l) (some : n ≡ 0 → ⊥) where
-  worked_out : n ≡ length_for (size_in l)
-  worked_out = length_is ∙ ap length_for size_is
+-- the tests that are left where the size has a length
+abbrev rest : ℕ → List ℕ → ℕ → ℕ → Bool
+rest limit l s n = every (leb s limit ∷ eqb (length l) n ∷ leb (field 8 l 40) 3 ∷ cond (eqb s 1) (every (zero_tests l)) true ∷ [])
 
-  treed : height_number (size_in l) ≡ 0
-  treed = size-treed _ (λ e. some (worked_out ∙ e))
-
-  whole : n ≡ record_length (size_in l)
-  whole = worked_out ∙ length_for_lem _ treed
-
-  past_two : s ≤ limit → record_ok limit l ≡ every (drop 2 (record_tests limit l))
+module _ (limit : ℕ) (l : List ℕ) {s : ℕ} (size_is : s ≡ size_in l) where
+  outside : length_of s ≡ None → record_ok limit l ≡ false
   unfolding record_ok record_tests
-  past_two within = every_pass _ (eq-eqb _ _ treed) ∙ every_pass _ (le-leb (size_in l) limit (omega arith))
+  outside e = every_fail _ (ne_eqb (height_number (size_in l)) 0 (λ z. length_out s e (ap height_number size_is ∙ z)))
 
-  past_four : s ≤ limit → length l ≡ n → field 8 l 40 ≤ 3 → record_ok limit l ≡ every (drop 4 (record_tests limit l))
+  inside : {n : ℕ} → length_of s ≡ Some n → record_ok limit l ≡ rest limit l s n
   unfolding record_ok record_tests
-  past_four within exact few =
-      past_two within ∙ every_pass _ (eq-eqb _ _ (exact ∙ whole)) ∙ every_pass _ (le-leb (field 8 l 40) 3 few)
+  inside e =
+      let q = length_some s e in
+      rw (q.1, size_is) (every_pass _ (eq-eqb (height_number (size_in l)) 0 (ap height_number (sym size_is) ∙ q.0)))
 
-pub returns-then-length-eq0 : goal.returns-then-length-eq0
-unfolding record_ok record_tests record_length
-returns-then-length-eq0 c =
-    let size = size_in c.args.l.now in
-    let none = sym (c.record_length-length.ensures ∙ ap length_for c.get_u64-size.ensures) ∙ c.if-length-eq0.true in
-    sym (every_fail _ (ne_eqb (height_number size) 0 (λ e. omega (arith, none, length_for_lem size e))))
+pub returns-in_default : goal.returns-in_default
+returns-in_default c =
+    let none : c.record_length.result ≡ None = search rules in
+    sym (outside c.args.limit c.args.l.now c.get_u64-size.ensures (sym c.record_length.ensures ∙ none))
 
-pub returns-then-l-length : goal.returns-then-l-length
-unfolding record_tests
-returns-then-l-length c =
-    let l = c.args.l.now in
-    let length_is = whole c.args.limit l c.record_length-length.ensures c.get_u64-size.ensures c.if-length-eq0.false in
-    sym (past_two c.args.limit l c.record_length-length.ensures c.get_u64-size.ensures c.if-length-eq0.false (omega arith)
-    ∙ every_fail _ (ne_eqb _ _ (λ e. c.if-l-length.true (e ∙ sym length_is))))
+pub returns-then-size-ne1 : goal.returns-then-size-ne1
+unfolding every
+returns-then-size-ne1 c =
+    rw (inside c.args.limit c.args.l.now c.get_u64-size.ensures (sym c.record_length.ensures ∙ c.in-Some.is)) (grind (arith, common_steps))
 
-pub returns-then-size-eq1 : goal.returns-then-size-eq1
-unfolding record_tests
-returns-then-size-eq1 c =
-    let l = c.args.l.now in
-    let size = c.get_u64-size.ensures in
-    let passed = past_four c.args.limit l c.record_length-length.ensures size c.if-length-eq0.false (omega arith) c.if-l-length.false
-    (omega (arith, c)) in
-    sym (passed ∙ every_one _ ∙ rw (← size, eq-eqb _ _ c.if-size-eq1.true) (sym c.zero_head.ensures))
+pub returns-else-size-ne1 : goal.returns-else-size-ne1
+unfolding every
+returns-else-size-ne1 c =
+    rw (inside c.args.limit c.args.l.now c.get_u64-size.ensures (sym c.record_length.ensures ∙ c.in-Some.is)) (grind (arith, common_steps))
 
-pub returns : goal.returns
-unfolding record_tests
-returns c =
-    let l = c.args.l.now in
-    let size = c.get_u64-size.ensures in
-    let passed = past_four c.args.limit l c.record_length-length.ensures size c.if-length-eq0.false (omega arith) c.if-l-length.false
-    (omega (arith, c)) in
-    sym (passed ∙ every_one _ ∙ rw (← size, ne_eqb _ _ c.if-size-eq1.false))
+pub returns-else-get_u64-le3 : goal.returns-else-get_u64-le3
+unfolding every
+returns-else-get_u64-le3 c =
+    rw (inside c.args.limit c.args.l.now c.get_u64-size.ensures (sym c.record_length.ensures ∙ c.in-Some.is)) (grind (arith, common_steps))
