@@ -1,6 +1,6 @@
 -- Laws of the public calls' tests.
---     rows         early_refused, first_front, early_passed: those that are tested first, and those that are tested late; avoids,
---                  first_avoids: a number that no row has is not answered
+--     rows         first_front: where nothing is answered, nothing was answered early; avoids, first_avoids: a number that no
+--                  row has is not answered
 --     an image     image-refused, image_passed: a call on it as a whole
 --     alike        alike-none, alike_next, alike_all, alike_at, alike_fails, alike_ext: two functions agree below n
 -- Assumes nothing.
@@ -17,42 +17,20 @@ use lib.Dec.{T, eqb, ltb}
 use borrow.Author.Tests.{ltb-true, eqb-true, eqb-false, eq-eqb, ne_eqb}
 use Rattle.words.specs.Cells.{zeroed}
 use Rattle.words.specs.Refusals.{Mismatch, every, first, on_success}
-use Rattle.words.proofs.TestLaws.{every-none, every_pass, every-at, first_miss, first-clear, numbered}
+use Rattle.words.proofs.TestLaws.{every-none, every_pass, every-at, numbered}
+use Rattle.placement.proofs.LimitLaws.{before, past}
 use Rattle.multi.specs.Calls.{alike, functions_in, matches, late, scratch_read}
 use Rattle.multi.specs.Reading.{matches_by, found}
 
 -- ---- rows in two parts
 
-pub early_refused : (rows late : List (Bool × ℕ)) → (first rows ≡ 0 → ⊥) → first (rows ++ late) ≡ first rows
-unfolding first
-early_refused [] late some = absurd (some refl)
-early_refused (row ∷ rows) late some = go row.0 (early_refused rows late) some
-  where
-    go : (t : Bool) → ((first rows ≡ 0 → ⊥) → first (rows ++ late) ≡ first rows) → (cond t row.1 (first rows) ≡ 0 → ⊥)
-        → cond t row.1 (first (rows ++ late)) ≡ cond t row.1 (first rows)
-    go true rest some = refl
-    go false rest some = rest some
-
--- where nothing is answered, nothing was answered early
 pub first_front : (rows late : List (Bool × ℕ)) → first (rows ++ late) ≡ 0 → first rows ≡ 0
 first_front rows late e =
-    elim (ℕ_discrete (first rows) 0) [ yes z ↦ z | no some ↦ absurd (some (sym (early_refused rows late some) ∙ e)) ]
-
-rest : (t b : Bool) → T (cond t b false) → T b
-rest true b h = h
-rest false b h = absurd h
+    elim (ℕ_discrete (first rows) 0) [ yes z ↦ z | no some ↦ absurd (some (sym (before rows late some) ∙ e)) ]
 
 true_of : (t : Bool) → T t → t ≡ true
 true_of true h = refl
 true_of false h = absurd h
-
-pub early_passed : (rows late : List (Bool × ℕ)) → T (numbered rows) → first rows ≡ 0 → first (rows ++ late) ≡ first late
-unfolding first
-early_passed [] late p e = refl
-early_passed (row ∷ rows) late p e =
-    let missed = first-clear (row ∷ rows) 0 p e in
-    first_miss row.1 (rows ++ late) missed
-    ∙ early_passed rows late (rest (ltb 0 row.1) (numbered rows) p) (sym (first_miss row.1 rows missed) ∙ e)
 
 abbrev pub avoids : ℕ → List (Bool × ℕ) → Bool
 avoids m [] = ltb 0 m
@@ -86,7 +64,7 @@ module _ {A X : Type 0} (make : ℕ → List ℕ → X → A) (bucket : List ℕ
 
   pub image-refused : (n : ℕ) → T (avoids Mismatch early) → n ≡ first early → (n ≡ 0 → ⊥) → make n s o ≡ called
   image-refused n away e some =
-      let same : first (early ++ late bucket l) ≡ n = early_refused early (late bucket l) (λ z. some (e ∙ z)) ∙ sym e in
+      let same : first (early ++ late bucket l) ≡ n = before early (late bucket l) (λ z. some (e ∙ z)) ∙ sym e in
       sym (ap numbering same ∙ go n some (λ z. first_avoids Mismatch early away (sym e ∙ z)))
     where
       go : (k : ℕ) → (k ≡ 0 → ⊥) → (k ≡ Mismatch → ⊥) → numbering k ≡ make k s o
@@ -96,7 +74,7 @@ module _ {A X : Type 0} (make : ℕ → List ℕ → X → A) (bucket : List ℕ
   -- the late test
   late_is : T (numbered early) → first early ≡ 0 → first (early ++ late bucket l) ≡ found (functions_in bucket l) l
   unfolding matches first
-  late_is fair e = early_passed early (late bucket l) fair e ∙ go (matches_by (functions_in bucket l) l)
+  late_is fair e = past early (late bucket l) fair e ∙ go (matches_by (functions_in bucket l) l)
     where
       go : (t : Bool) → cond (not t) Mismatch 0 ≡ cond t 0 Mismatch
       go true = refl

@@ -1,9 +1,9 @@
 -- Laws of reading one cell, with the sizes of all buckets in scratch.
---     the pass     cell_spots: what `spots` answers and leaves; with_sizes-part, with_sizes-long, compared: the sizes, held against
---                  the image's
+--     the pass     cell_spots: what `spots` answers and leaves; with_sizes-part, with_sizes-long, compared, cell-compared: the sizes,
+--                  held against the image's
 --     the cell     spots_here: its three records are there; cell_at: their share is that of the rules; found-mismatch,
 --                  found-share: what is answered
---     the call     Readable, readable: what is known where nothing is refused early; cell-refused, cell_passed
+--     the call     Readable, readable: what is known where nothing is refused early; cell_refused, cell_passed
 -- Assumes nothing.
 use mathlib.Core.Path.{◌≡◌, refl, sym, ap, ◌∙◌}
 use mathlib.Core.Bool.{Bool, true, false, cond}
@@ -12,22 +12,24 @@ use mathlib.Core.List.{List}
 use Prim.Native.Nat.{ℕ, ◌≤◌, ◌<◌}
 use native.Mathlib.Omega.{arith}
 use lib.ListN.{length, take, get_or}
-use borrow.Author.Tests.{leb-false, ltb-false, not-false}
+use borrow.Author.Tests.{leb-false, ltb-false}
+use Rattle.std.specs.Prelude.{Err}
+use Rattle.words.specs.declared.refusals.Refusal.{Refusal}
 use Rattle.words.specs.declared.Word.{Word}
 use Rattle.words.specs.Cells.{tab, zeroed}
-use Rattle.words.specs.Refusals.{Mismatch, first}
+use Rattle.words.specs.Refusals.{Mismatch, first, number_of}
 use Rattle.words.proofs.ByteLaws.{take_put}
 use Rattle.words.proofs.CellLaws.{length-tab, get_or-tab}
 use Rattle.words.proofs.TestLaws.{first-clear}
 use Rattle.single.specs.Rules.{Record}
-use Rattle.placement.specs.declared.Spots.{Spots}
+use Rattle.placement.specs.Answers.{Spots}
 use Rattle.placement.specs.Buckets.{size_of}
 use Rattle.placement.specs.Calls.{spotted, spots_of, spotting}
-use Rattle.multi.specs.declared.calls.Share.{Share}
 use Rattle.multi.specs.Rules.{cell_share, multi_share}
 use Rattle.multi.specs.Image.{buckets_in, domain_in, bucket_record, bucket_size, multi_ok}
-use Rattle.multi.specs.Calls.{side_in, alike, functions_in, share_in, evaluate_at_early, evaluate_at_number, Reading, reading, evaluate_at}
+use Rattle.multi.specs.Calls.{Share, told_share, side_in, alike, functions_in, share_in, evaluate_at_early, evaluate_at_number, Reading, reading, evaluate_at}
 use Rattle.multi.specs.Reading.{Here, matches_by, found, share_by, with_sizes, cell_found}
+use Rattle.multi.proofs.ToldLaws.{refuses}
 use Rattle.multi.proofs.ImageLaws.{well_formed}
 use Rattle.multi.proofs.CallLaws.{image-refused, image_passed, alike_ext}
 use Rattle.multi.proofs.ReadLaws.{zeroed_write, spots_done}
@@ -67,6 +69,11 @@ compared h l part e =
     ∙ alike_ext (bucket_size l) (λ c. get_or (tab f (buckets_in l)) c 0) f (buckets_in l)
     (λ i below. get_or-tab f (buckets_in l) i below)
 
+-- those of the pass
+pub cell-compared : (h : ℕ → ℕ → ℕ) (l s m : List ℕ) (n : ℕ) (t : Bool) → n ≡ buckets_in l → m ≡ with_sizes h l s
+    → t ≡ alike (bucket_size l) (λ c. get_or (take n m) c 0) (length (take n m)) → t ≡ matches_by h l
+cell-compared h l s m n t b e same = same ∙ compared h l _ (with_sizes-part h l s m n b e)
+
 -- ---- the cell
 
 pub spots_here : (l : List ℕ) → multi_ok l ≡ true → (h : ℕ → ℕ → ℕ) → ((k x : ℕ) → k < 3 → x < domain_in l → h k x < buckets_in l)
@@ -101,32 +108,24 @@ module _ (H : Word → Word) (h : ℕ → ℕ → ℕ) (l : List ℕ) (x : ℕ) 
 
 -- what is known where nothing is refused early
 pub record Readable (l : List ℕ) (x len : ℕ) : Type 0 where
-  pub ok : multi_ok l ≡ true
   pub inside : x < domain_in l
   pub room : buckets_in l ≤ len
-  pub header : 72 ≤ length l
 
 pub readable : (l : List ℕ) (x len : ℕ) → first (evaluate_at_early l x len) ≡ 0 → Readable l x len
 readable l x len e =
     let rows = evaluate_at_early l x len in
-    let ok = not-false _ (first-clear rows 0 tt e) in
-    record {
-      ok = ok;
-      inside = leb-false _ _ (first-clear rows 1 tt e);
-      room = ltb-false _ _ (first-clear rows 2 tt e);
-      header = omega (arith, (well_formed l ok).directory);
-    }
+    record { inside = leb-false _ _ (first-clear rows 1 tt e); room = ltb-false _ _ (first-clear rows 2 tt e) }
 
 -- a number, scratch and a share
 abbrev cell_answer : ℕ → List ℕ → ℕ → Reading
 cell_answer n s v = reading (record { number = n; share = v }) s
 
 module _ (H : Word → Word) (bucket : List ℕ → ℕ → ℕ → ℕ → ℕ) (l : List ℕ) (x : ℕ) (s : List ℕ) where
-  pub cell-refused : (n : ℕ) → n ≡ first (evaluate_at_early l x (length s)) → (n ≡ 0 → ⊥)
-      → reading (record { number = n; share = 0 }) s ≡ evaluate_at H bucket l x s
+  pub cell_refused : (e : Refusal) → number_of e ≡ first (evaluate_at_early l x (length s))
+      → reading (told_share (Err e)) s ≡ evaluate_at H bucket l x s
   unfolding evaluate_at evaluate_at_number
-  cell-refused n e some =
-      image-refused cell_answer bucket l (evaluate_at_early l x (length s)) _ s (share_in H bucket l x) 0 n tt e some
+  cell_refused e same =
+      image-refused cell_answer bucket l (evaluate_at_early l x (length s)) _ s (share_in H bucket l x) 0 _ tt same (refuses e)
 
   pub cell_passed : (h : ℕ → ℕ → ℕ) (r : Share) (m : List ℕ) → h ≡ functions_in bucket l
       → first (evaluate_at_early l x (length s)) ≡ 0

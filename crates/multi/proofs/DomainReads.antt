@@ -1,5 +1,5 @@
 -- Laws of reading all cells, with the shares of all buckets in scratch.
---     starts       domain-starts, with_starts-part, with_starts-long: the starts and sizes that were counted
+--     starts       domain-starts, with_starts-part, with_starts-long: the starts and sizes that were counted; domain-compared
 --     shares       with_shares-none, with_shares-all, with_shares_by: what is laid in scratch
 --     the number   found-one, found_none, found_match, found_differ: what it says of the sizes
 --     behind       length-with_shares, zeroed-with_shares: what is zeroed does not remember it; gathered-shares: the sums that are
@@ -10,7 +10,7 @@ use mathlib.Core.Bool.{Bool, true, false, cond}
 use mathlib.Core.List.{List}
 use Prim.Native.Nat.{ℕ, ◌+◌, ◌-◌, ◌≤◌, ◌<◌}
 use native.Mathlib.Omega.{arith}
-use lib.ListN.{length, take, drop}
+use lib.ListN.{length, take, drop, get_or}
 use Rattle.words.specs.declared.Word.{Word}
 use Rattle.words.specs.Bytes.{put}
 use Rattle.words.specs.Cells.{tab, zeroed}
@@ -22,10 +22,11 @@ use Rattle.cipher.specs.TreeHash.{fixed, hash_by, tree_hash}
 use Rattle.placement.specs.Buckets.{size_of, start_of}
 use Rattle.placement.specs.Passes.{gathered}
 use Rattle.placement.specs.Calls.{counting, starting}
-use Rattle.multi.specs.Image.{buckets_in, domain_in, multi_ok}
-use Rattle.multi.specs.Calls.{side_in, domain_room}
+use Rattle.multi.specs.Image.{buckets_in, domain_in, bucket_size, multi_ok}
+use Rattle.multi.specs.Calls.{side_in, alike, domain_room}
 use Rattle.multi.specs.Reading.{matches_by, found, share_by, with_starts, spread_out, with_shares}
 use Rattle.multi.proofs.ImageLaws.{well_formed}
+use Rattle.multi.proofs.CellReads.{compared}
 use Rattle.multi.proofs.ReadLaws.{zeroed_write, second-part, starts_done}
 use Rattle.multi.proofs.ExpandLaws.{length-with_starts, zeroed-with_starts, sums_whole, gathered_is}
 
@@ -33,7 +34,8 @@ use Rattle.multi.proofs.ExpandLaws.{length-with_starts, zeroed-with_starts, sums
 
 pub domain-starts : (hb : ℕ → ℕ → ℕ → ℕ) (l : List ℕ) → multi_ok l ≡ true → (D B n : ℕ) (s m : List ℕ) → D ≡ domain_in l
     → B ≡ buckets_in l
-    → domain_room l ≤ length s → counting n m ≡ starting (hb B) D B s → m ≡ with_starts (hb (buckets_in l)) l s
+    → domain_room l ≤ length s → counting n m ≡ starting (hb B) D B s
+    → (n ≡ 0) × (m ≡ with_starts (hb (buckets_in l)) l s)
 unfolding with_starts
 domain-starts hb l ok D B n s m d b fits e =
     let q = well_formed l ok in
@@ -52,6 +54,12 @@ with_starts-part h l s m n b e =
 pub with_starts-long : (h : ℕ → ℕ → ℕ) (l s m : List ℕ) (n : ℕ) → n ≡ buckets_in l → m ≡ with_starts h l s
     → length (take (n + n - n) (drop n m)) ≡ n
 with_starts-long h l s m n b e = ap length (with_starts-part h l s m n b e) ∙ length-tab _ (buckets_in l) ∙ sym b
+
+-- those sizes, held against the image's
+pub domain-compared : (h : ℕ → ℕ → ℕ) (l s m : List ℕ) (n : ℕ) (t : Bool) → n ≡ buckets_in l → m ≡ with_starts h l s
+    → t ≡ alike (bucket_size l) (λ c. get_or (take (n + n - n) (drop n m)) c 0) (length (take (n + n - n) (drop n m)))
+    → t ≡ matches_by h l
+domain-compared h l s m n t b e same = same ∙ compared h l _ (with_starts-part h l s m n b e)
 
 -- ---- what is laid in scratch
 

@@ -10,20 +10,22 @@ use native.Mathlib.Omega.{arith}
 use borrow.Author.Tests.{le-leb, lt-leb}
 use lib.Dec.{leb}
 use lib.ListN.{length, take, drop, get_or}
+use Rattle.std.specs.Prelude.{Err}
+use Rattle.words.specs.declared.refusals.Refusal.{Refusal}
 use Rattle.words.specs.declared.Word.{Word}
 use Rattle.words.specs.Bytes.{put}
 use Rattle.words.specs.Cells.{zeroed}
-use Rattle.words.specs.Refusals.{Place, first, on_success}
+use Rattle.words.specs.Refusals.{Place, first, on_success, number_of}
 use Rattle.words.proofs.TestLaws.{refused, first_most, first-least}
-use Rattle.placement.specs.declared.Placed.{Placed}
+use Rattle.placement.specs.Answers.{Placed}
 use Rattle.placement.specs.Calls.{Placing, walk_in, placeable, placed, laid_out, laying_out}
 use Rattle.placement.proofs.CallLaws.{placed_gave_up, placed-all, placed-hand, placed-evictions, placed-scratch}
 use Rattle.words.specs.Limits.{largest_single}
-use Rattle.multi.specs.declared.calls.Generated.{Generated}
-use Rattle.multi.specs.Calls.{Given, generate_room, functions, generate_early, generate_late, generate_number, generating, generate_keys}
+use Rattle.multi.specs.Calls.{Generated, Given, generate_room, functions, generate_early, generate_late, generate_number, generating, generate_keys, told_made}
 use Rattle.multi.specs.Making.{Writing, writing, write_given, refusing, write_laid}
 use Rattle.multi.proofs.WritingLaws.{given_up, work-small, work-inside, work-given}
-use Rattle.multi.proofs.CallLaws.{early_refused, early_passed}
+use Rattle.placement.proofs.LimitLaws.{before, past}
+use Rattle.multi.proofs.ToldLaws.{refuses}
 use Rattle.multi.proofs.GivenLaws.{Early, early_placeable}
 
 -- ---- after `lay_out`, which answered r and left m in scratch
@@ -46,15 +48,15 @@ module _ (H : Word → Word) (bucket : List ℕ → ℕ → ℕ → ℕ → ℕ)
   clear : placeable g.domain b g.points (length l) (b + n + b + b) ≡ 0
   clear = early_placeable g (length l) (length l) facts facts.room
 
-  number_of : {s t : Placing} → s ≡ t → s.answer.number ≡ t.answer.number
-  number_of e = ap (λ (p : Placing). p.answer.number) e
+  same_number : {s t : Placing} → s ≡ t → s.answer.number ≡ t.answer.number
+  same_number e = ap (λ (p : Placing). p.answer.number) e
 
   pub lay_gave_up : (r.number ≡ 0 → ⊥) → refusing r.number k0 k1 ≡ write_given H bucket g k0 k1
   lay_gave_up some =
       let all = placed-all h g.domain b g.points (b + n + b + b) layout l clear _ _ in
-      let left : (walk_in h b g.points).hand ≡ 0 → ⊥ = λ none. some (number_of (laid ∙ sym (all none refl refl))) in
+      let left : (walk_in h b g.points).hand ≡ 0 → ⊥ = λ none. some (same_number (laid ∙ sym (all none refl refl))) in
       let gave-up = placed_gave_up h g.domain b g.points (b + n + b + b) layout l clear left in
-      ap (λ (k : ℕ). refusing k k0 k1) (number_of (laid ∙ sym gave-up)) ∙ given_up H bucket g k0 k1 left
+      ap (λ (k : ℕ). refusing k k0 k1) (same_number (laid ∙ sym gave-up)) ∙ given_up H bucket g k0 k1 left
 
   module _ (low : (k x : ℕ) → k < 3 → h k x < b) (none : r.number ≡ 0) where
     hand : (walk_in h b g.points).hand ≡ 0
@@ -98,12 +100,14 @@ module _ (H : Word → Word) (bucket : List ℕ → ℕ → ℕ → ℕ → ℕ)
   early_low : first (generate_early g (length s)) ≤ 5
   early_low = first_most 5 (generate_early g (length s)) tt
 
-  pub call_refused : (n : ℕ) → n ≡ first (generate_early g (length s)) → (n ≡ 0 → ⊥)
-      → generating (record { number = n; length = 0; words = 0; evictions = 0 }) s k0 k1 ≡ generate_keys H bucket g s k0 k1
+  pub call_refused : (e : Refusal) → number_of e ≡ first (generate_early g (length s))
+      → generating (told_made (Err e)) s k0 k1 ≡ generate_keys H bucket g s k0 k1
   unfolding generate_keys generate_number
-  call_refused n e some =
+  call_refused refusal e =
+      let n = number_of refusal in
+      let some = refuses refusal in
       let number : first (generate_early g (length s) ++ generate_late bucket g (length k0) (length k1)) ≡ n =
-      early_refused (generate_early g (length s)) (generate_late bucket g (length k0) (length k1)) (λ z. some (e ∙ z)) ∙ sym e in
+      before (generate_early g (length s)) (generate_late bucket g (length k0) (length k1)) (λ z. some (e ∙ z)) ∙ sym e in
       let low : leb Place n ≡ false = lt-leb Place n (omega (arith, early_low)) in
       rw (number, refused n (zeroed (generate_room g) s) (cond (leb Place n) (zeroed (generate_room g) s) s) some, low)
       (sym (refused n _ _ some))
@@ -118,7 +122,7 @@ module _ (H : Word → Word) (bucket : List ℕ → ℕ → ℕ → ℕ → ℕ)
       → generating r (zeroed (generate_room g) s) m0 m1 ≡ generate_keys H bucket g s k0 k1
   unfolding generate_keys generate_number write_given
   call_made r m0 m1 none e =
-      let number = early_passed (generate_early g (length s)) (generate_late bucket g (length k0) (length k1)) tt none in
+      let number = past (generate_early g (length s)) (generate_late bucket g (length k0) (length k1)) tt none in
       ap (λ (w : Writing). generating w.answer (zeroed (generate_room g) s) w.key0 w.key1) e
       ∙ rw number (merge (first (generate_late bucket g (length k0) (length k1))) (late-high _ refl) _ _ _ k0 k1
       (zeroed (generate_room g) s) s)

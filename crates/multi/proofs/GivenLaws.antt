@@ -1,5 +1,5 @@
 -- Laws of what making was given and did not refuse.
---     early       Early, early: what the early refusals leave; early_part, early_placeable: a part of the scratch will do
+--     early       Early, early: what the early refusals leave; early_long, early_placeable: a part of the scratch will do
 --     answer 0    given_early, given-placed: what it says
 -- Assumes nothing.
 use mathlib.Core.Path.{◌≡◌, ap, ◌∙◌}
@@ -45,20 +45,21 @@ early g len e =
       room = ltb-false _ _ (first-clear rows 8 tt e);
     }
 
--- a part of the scratch that is just long enough passes as well
-pub early_part : (g : Given) (len : ℕ) → first (generate_early g len) ≡ 0 → first (generate_early g (generate_room g)) ≡ 0
-early_part g len e =
-    let rows = generate_early g len in
-    first_miss _ _ (first-clear rows 0 tt e)
-    ∙ first_miss _ _ (first-clear rows 1 tt e)
-    ∙ first_miss _ _ (first-clear rows 2 tt e)
-    ∙ first_miss _ _ (first-clear rows 3 tt e)
-    ∙ first_miss _ _ (first-clear rows 4 tt e)
-    ∙ first_miss _ _ (first-clear rows 5 tt e)
-    ∙ first_miss _ _ (first-clear rows 6 tt e)
-    ∙ first_miss _ _ (first-clear rows 7 tt e)
-    ∙ first_miss _ _ (le-ltb (generate_room g) (generate_room g) (omega arith))
-    ∙ first-none
+-- the tests know no more of the scratch than that there is room
+pub early_long : (g : Given) (len more : ℕ) → first (generate_early g len) ≡ 0 → generate_room g ≤ more → Early g more
+early_long g len more e room =
+    let q = early g len e in
+    record {
+      some_cells = q.some_cells;
+      few_cells = q.few_cells;
+      some_buckets = q.some_buckets;
+      few_buckets = q.few_buckets;
+      some_points = q.some_points;
+      few_points = q.few_points;
+      paired = q.paired;
+      rising = q.rising;
+      room = room;
+    }
 
 -- laying out refuses none of it, in a part of the scratch
 pub early_placeable : (g : Given) (len part : ℕ) → Early g len → generate_room g ≤ part

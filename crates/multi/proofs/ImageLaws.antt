@@ -1,8 +1,8 @@
 -- Laws of a multi image that passes: what a reader goes by.
 --     Recorded, Bare, Slot            a bucket that has a record, and one that has none
---     WellFormed, well_formed         what an image that passes has; header_few
---     Handed, handed                  where handing out a record is not refused
---     keys-long, keys-at              the hash keys
+--     WellFormed, well_formed         what an image that passes has; header_few; header_long, few_cells_in, few_buckets_in, for what
+--                                     needs no more
+--     Handed, handed                  where handing out a record is not refused; record_refused, place_refused: where it is
 -- Assumes nothing.
 use mathlib.Core.Path.{◌≡◌, refl, sym, ap, ◌∙◌, subst}
 use mathlib.Core.Bool.{Bool, true, false, not}
@@ -12,15 +12,17 @@ use Prim.Native.Nat.{ℕ, ◌+◌, ◌*◌, ◌≤◌, ◌<◌}
 use native.Mathlib.Omega.{arith}
 use borrow.Author.Tests.{eqb-true, eqb-false, leb-true, leb-false, not-false}
 use lib.Dec.{eqb, leb}
-use lib.ListN.{length, drop, get_or, length-drop}
-use lib.Seq.{length-take-le, get_or-take, get_or-drop}
+use lib.ListN.{length}
+use Rattle.std.specs.Prelude.{Err}
+use Rattle.words.specs.declared.refusals.Refusal.{Refusal}
 use Rattle.words.specs.Limits.{largest_multi, largest_single, most_buckets}
 use Rattle.words.specs.Bytes.{le_num, field}
-use Rattle.words.specs.Refusals.{Key, Index}
+use Rattle.words.specs.Refusals.{Key, Index, number_of}
 use Rattle.words.proofs.TestLaws.{every-at, first-clear}
 use Rattle.words.proofs.HeightLaws.{limits_of}
+use Rattle.placement.proofs.LimitLaws.{refused_as}
 use Rattle.single.specs.Record as single
-use Rattle.multi.specs.Image.{party_in, buckets_in, domain_in, count_in, offset_in, keys_in, entry_in, bucket_part, bucket_size, header_tests, header_ok, next_in, slot_ok, slots_ok, multi_ok, record_number}
+use Rattle.multi.specs.Image.{party_in, buckets_in, domain_in, count_in, offset_in, entry_in, bucket_part, bucket_size, header_tests, header_ok, next_in, slot_ok, slots_ok, multi_ok, record_number, RecordPlace, told_place, place_of, record_given}
 use Rattle.multi.proofs.RecordPlaces.{standing, bucket_part-none, bucket_part_there}
 use Rattle.multi.proofs.SlotLaws.{there_tests, slot_there, slots_at}
 
@@ -119,6 +121,15 @@ well_formed l e =
       slot = λ c below. slot_case l c (slots_at l (buckets_in l) c (every-at parts 1 e) below) (eqb (entry_in l c) 0) refl;
     }
 
+pub header_long : (l : List ℕ) → multi_ok l ≡ true → 72 ≤ length l
+header_long l ok = omega (arith, (well_formed l ok).directory)
+
+pub few_cells_in : (l : List ℕ) → multi_ok l ≡ true → domain_in l ≤ largest_multi
+few_cells_in l ok = (well_formed l ok).few_cells
+
+pub few_buckets_in : (l : List ℕ) → multi_ok l ≡ true → buckets_in l ≤ most_buckets
+few_buckets_in l ok = (well_formed l ok).few_buckets
+
 -- ---- handing out a record
 
 -- what holds where nothing is refused
@@ -135,12 +146,11 @@ handed l c e =
     let below : c < buckets_in l = leb-false (buckets_in l) c (first-clear rows 1 tt e) in
     record { passes = p; below = below; few = omega (arith, p.few_buckets) }
 
--- ---- the hash keys
+-- and where something is
+pub record_refused : (l : List ℕ) (c : ℕ) (e : Refusal) → number_of e ≡ record_number l c → [] ≡ record_given l c
+unfolding record_given
+record_refused l c e same = refused_as {A = List ℕ} _ _ (λ _. []) e (sym same)
 
-pub keys-long : (l : List ℕ) → 72 ≤ length l → length (keys_in l) ≡ 48
-unfolding keys_in
-keys-long l long = length-take-le 48 (drop 24 l) (simp length-drop (omega arith))
-
-pub keys-at : (l : List ℕ) (i : ℕ) → i < 48 → get_or (keys_in l) i 0 ≡ get_or l (24 + i) 0
-unfolding keys_in
-keys-at l i below = rw (get_or-take, get_or-drop)
+pub place_refused : (l : List ℕ) (c : ℕ) (e : Refusal) → number_of e ≡ record_number l c → told_place (Err e) ≡ place_of l c
+unfolding place_of
+place_refused l c e same = refused_as {A = RecordPlace} _ _ (λ n. record { number = n; start = 0; bytes = 0 }) e (sym same)

@@ -1,9 +1,9 @@
 -- Laws of writing a multi image.
---     header       fields_room, header_written
+--     header       header_written
 --     directory    entry_of, directory_next
 --     records      records-first, records_next: a record behind those before it
 -- Assumes nothing.
-use mathlib.Core.Path.{◌≡◌, sym, ap, ◌∙◌}
+use mathlib.Core.Path.{◌≡◌, sym, ◌∙◌}
 use mathlib.Core.Bool.{cond}
 use mathlib.Core.List.{List, ◌++◌}
 use Prim.Native.Nat.{ℕ, suc, ◌+◌, ◌*◌, ◌≤◌, ◌<◌}
@@ -13,7 +13,7 @@ use lib.Dec.{eqb}
 use lib.ListN.{length, length-append}
 use Rattle.words.specs.Bytes.{le_bytes, put, stored}
 use Rattle.words.specs.Cells.{sum_to}
-use Rattle.words.proofs.ByteLaws.{put_nil, put_next, length-put, stored-fits, length-le_bytes, stored_next}
+use Rattle.words.proofs.ByteLaws.{put_nil, put_next, stored-fits, length-le_bytes, stored_next}
 use Rattle.multi.specs.Image.{record_start, multi_length, header_bytes, entry_for, directory_bytes, records_bytes, lengths}
 use Rattle.multi.proofs.RecordPlaces.{record_start_le}
 use Rattle.multi.proofs.ImageBytes.{length-records}
@@ -51,12 +51,6 @@ module _ (p b d n : ℕ) (l0 : List ℕ) {l1 l2 l3 l4 l5 : List ℕ} (room : 72 
     length_field_bytes : length (field_bytes p b d n) ≡ 24
     unfolding field_bytes
     length_field_bytes = simp (length-append, length-le_bytes)
-
-    -- leave room for these
-    pub fields_room : 72 ≤ length l5
-    fields_room =
-        let long =
-        ap length fields_written ∙ length-put l0 0 (field_bytes p b d n) (omega (arith, length_field_bytes)) in omega arith
 
     pub header_written : {l6 : List ℕ} (keys : List ℕ) → length keys ≡ 48 → l6 ≡ put l5 24 keys
         → l6 ≡ put l0 0 (header_bytes p b d n keys)

@@ -1,6 +1,6 @@
 -- Laws of writing the records of all buckets, one behind the other, into both images.
 --     records     length-laid_bytes, record_start_laid; image_laid: behind header and directory they are the image
---     a turn      Laying, laying_none, laying_all, laying_room0, laying_room1, laying_more
+--     a turn      Laying, laying_none, laying_room0, laying_room1, laying_more
 -- Assumes nothing.
 use mathlib.Core.Path.{◌≡◌, refl, sym, ap, ap₂, ◌∙◌}
 use mathlib.Core.Bool.{Bool, true, false}
@@ -104,15 +104,6 @@ laying_none H holders sizes spots vs ws k0 k1 = record {
   first = records-first _ k0 _;
   second = records-first _ k1 _;
 }
-
--- those of all buckets
-pub laying_all : (H : Word → Word) (holders sizes spots vs ws k0 k1 l0 l1 : List ℕ) (at used c : ℕ)
-    → Laying H holders sizes spots vs ws k0 k1 l0 l1 at used c → length sizes ≤ c
-    → (l0 ≡ put k0 (72 + 8 * length sizes) (records_bytes (laid_bytes H holders sizes spots vs ws false) (length sizes)))
-    × (l1 ≡ put k1 (72 + 8 * length sizes) (records_bytes (laid_bytes H holders sizes spots vs ws true) (length sizes)))
-laying_all H holders sizes spots vs ws k0 k1 l0 l1 at used c q all =
-    let e : c ≡ length sizes = omega (arith, q.within) in
-    (rw e at q.first, rw e at q.second)
 
 module _ (H : Word → Word) (holders sizes spots vs ws k0 k1 l0 l1 : List ℕ) (at used c : ℕ)
     (fit : Fitting sizes spots (length k0) (length k1))

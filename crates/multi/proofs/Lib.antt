@@ -1,5 +1,5 @@
 -- What belongs to no one function: laws on plain values, then the promises of specs/Promises.antt and the known sums.
-pub mod CopyLaws
+pub mod ToldLaws
 pub mod RecordPlaces
 pub mod SlotLaws
 pub mod ImageLaws
@@ -23,6 +23,7 @@ pub mod SweepLaws
 pub mod RecordsMade
 pub mod MadeKeysRead
 pub mod OwnKeysRead
+pub mod RefusalsTold
 pub mod CallsDetermined
 pub mod SharesSum
 pub mod PairsAdd

@@ -24,7 +24,7 @@ use Rattle.words.proofs.TestLaws.{first-none, first_miss, succeeded}
 use Rattle.bucket_hash.specs.declared.Hashes.{Hashes}
 use Rattle.bucket_hash.specs.BucketHash.{bucket_of, hashes_of, bucket_by}
 use Rattle.bucket_hash.proofs.HashesKeyed.{hashes_keyed}
-use Rattle.placement.specs.declared.Spots.{Spots}
+use Rattle.placement.specs.Answers.{Spots}
 use Rattle.placement.specs.Buckets.{size_of, start_of}
 use Rattle.placement.specs.Passes.{gathered}
 use Rattle.placement.specs.Calls.{pass_rows, pass_number, Counting, counting, starting, Spotting, spotted, spots_of, spotting, Gathering, gathering, gathering_out, gathering_into}
@@ -85,9 +85,11 @@ module _ (h : ℕ → ℕ → ℕ) (D B : ℕ) (some_cells : 1 ≤ D) (few_cells
       ∙ first_miss _ _ (le-ltb most_buckets B few_buckets) ∙ first_miss _ _ (le-ltb (length l) need fits) ∙ none
 
   pub starts_done : (n : ℕ) (m : List ℕ) → B + B ≤ length l → counting n m ≡ starting h D B l
-      → m ≡ put l 0 (tab (start_of h D) B ++ tab (size_of h D) B)
+      → (n ≡ 0) × (m ≡ put l 0 (tab (start_of h D) B ++ tab (size_of h D) B))
   unfolding starting
-  starts_done n m fits e = ap (λ (r : Counting). r.work) (e ∙ succeeded _ _ _ (passes (B + B) [] fits first-none))
+  starts_done n m fits e =
+      let all = e ∙ succeeded _ _ _ (passes (B + B) [] fits first-none) in
+      (ap (λ (r : Counting). r.number) all, ap (λ (r : Counting). r.work) all)
 
   pub spots_done : (x : ℕ) (r : Spots) (m : List ℕ) → x < D → B ≤ length l → spotted r m ≡ spotting h D B x l
       → (r ≡ spots_of h D x) × (m ≡ put l 0 (tab (size_of h D) B))
@@ -98,23 +100,23 @@ module _ (h : ℕ → ℕ → ℕ) (D B : ℕ) (some_cells : 1 ≤ D) (few_cells
 
   pub gather_done : (n : ℕ) (m o o' : List ℕ) → B + B + 6 * D ≤ length l → D ≤ length o
       → gathering n m o' ≡ gathering_out h D B l o
-      → (m ≡ put l B (tab (size_of h D) B)) × (o' ≡ put o 0 (tab (gathered h D B l) D))
+      → (n ≡ 0) × (m ≡ put l B (tab (size_of h D) B)) × (o' ≡ put o 0 (tab (gathered h D B l) D))
   unfolding gathering_out
   gather_done n m o o' fits room e =
       let all =
       e ∙ succeeded _ _ _ (passes (B + B + 6 * D) ((ltb (length o) D, Room) ∷ []) fits
       (first_miss _ _ (le-ltb (length o) D room) ∙ first-none)) in
-      (ap (λ (q : Gathering). q.work) all, ap (λ (q : Gathering). q.out) all)
+      (ap (λ (q : Gathering). q.number) all, ap (λ (q : Gathering). q.work) all, ap (λ (q : Gathering). q.out) all)
 
   pub gather_into_done : (n : ℕ) (m t t' : List ℕ) → B + B + 6 * D ≤ length l → length t ≡ D
       → gathering n m t' ≡ gathering_into h D B l t
-      → (m ≡ put l B (tab (size_of h D) B)) × (t' ≡ added 64 (gathered h D B l) t)
+      → (n ≡ 0) × (m ≡ put l B (tab (size_of h D) B)) × (t' ≡ added 64 (gathered h D B l) t)
   unfolding gathering_into
   gather_into_done n m t t' fits same e =
       let all =
       e ∙ succeeded _ _ _ (passes (B + B + 6 * D) ((not (eqb (length t) D), Table) ∷ []) fits
       (first_miss _ _ (ap not (eq-eqb (length t) D same)) ∙ first-none)) in
-      (ap (λ (q : Gathering). q.work) all, ap (λ (q : Gathering). q.out) all)
+      (ap (λ (q : Gathering). q.number) all, ap (λ (q : Gathering). q.work) all, ap (λ (q : Gathering). q.out) all)
 
 -- ---- the image's bucket functions
 

@@ -1,21 +1,21 @@
 -- Laws of where records stand in a multi image.
 --     starts     record_start-first, record_start_next, record_start_le, record_start-least, record_start_same
---     records    length-treed, length-zero; Standing, standing: what stands where a record was accepted
---     parts      bucket_part-none, bucket_part_there; part_past, part_short, part_cut: as code cuts them
+--     records    length-treed, length-zero, length_or_none; Standing, standing: what stands where a record was accepted
+--     parts      bucket_part-none, bucket_part_there
 -- Assumes nothing.
 use mathlib.Core.Path.{◌≡◌, refl, sym, ap, ◌∙◌}
 use mathlib.Core.Bool.{true}
 use mathlib.Core.List.{List, []}
-use Prim.Native.Nat.{ℕ, zero, suc, ◌+◌, ◌*◌, ◌-◌, ◌≤◌, ◌<◌, min}
+use Prim.Native.Nat.{ℕ, zero, suc, ◌+◌, ◌*◌, ◌≤◌, ◌<◌, min}
 use native.Mathlib.Numerals.{add-one}
 use native.Mathlib.Omega.{arith}
 use borrow.Author.Tests.{eq-eqb, ne_eqb}
-use lib.ListN.{length, take, drop, length-take, length-drop, drop_of_length-le}
-use lib.Seq.{take_all, take-nil}
+use lib.ListN.{length, take, drop, length-take, length-drop}
+use Rattle.std.specs.Prelude.{Some, None, unwrap_or}
 use Rattle.words.specs.Bytes.{field}
 use Rattle.words.specs.Cells.{sum_to}
 use Rattle.words.specs.Height as height
-use Rattle.words.specs.Refusals.{first}
+use Rattle.words.specs.Refusals.{first, on_success}
 use Rattle.words.proofs.ByteLaws.{field_mid}
 use Rattle.words.proofs.CellLaws.{sum_same, sum_mono}
 use Rattle.single.specs.Record as single
@@ -54,6 +54,15 @@ length-treed s e = length_for_lem s e
 pub length-zero : single.length_for 0 ≡ 0
 unfolding single.length_for height.height_number first
 length-zero = refl
+
+-- as code asks for it
+pub length_or_none : (s : ℕ) → unwrap_or (single.length_of s) 0 ≡ single.length_for s
+unfolding single.length_of single.length_for
+length_or_none s = go (height.height_number s)
+  where
+    go : (n : ℕ) → unwrap_or (on_success n (Some (single.record_length s)) None) 0 ≡ on_success n (single.record_length s) 0
+    go zero = refl
+    go (suc n) = refl
 
 -- what stands from a on where a record was accepted
 pub record Standing (l : List ℕ) (a : ℕ) : Type 0 where
@@ -96,18 +105,3 @@ bucket_part-none l c e = rw (eq-eqb (entry_in l c) 0 e)
 pub bucket_part_there : (l : List ℕ) (c : ℕ) → (entry_in l c ≡ 0 → ⊥) → bucket_part l c ≡ single.record_part l (entry_in l c)
 unfolding bucket_part
 bucket_part_there l c some = rw (ne_eqb (entry_in l c) 0 some)
-
--- as code cuts it: behind the end; where the end comes first; whole
-pub part_past : (l : List ℕ) (a : ℕ) → length l ≤ a → single.record_part l a ≡ []
-part_past l a h =
-    ap (λ (r : List ℕ). take (single.length_for (field 8 l a)) r) (drop_of_length-le l {i = a} h)
-    ∙ take-nil (single.length_for (field 8 l a))
-
-pub part_short : (l : List ℕ) (a n : ℕ) → n ≡ single.length_for (field 8 l a) → length l - a ≤ n
-    → take (length l - a) (drop a l) ≡ single.record_part l a
-part_short l a n e h =
-    let left = length-drop a l in
-    take_all (length l - a) (drop a l) (omega arith) ∙ sym (take_all (single.length_for (field 8 l a)) (drop a l) (omega arith))
-
-pub part_cut : (l : List ℕ) (a n : ℕ) → n ≡ single.length_for (field 8 l a) → take (a + n - a) (drop a l) ≡ single.record_part l a
-part_cut l a n e = let cut : a + n - a ≡ single.length_for (field 8 l a) = omega arith in ap (λ (k : ℕ). take k (drop a l)) cut

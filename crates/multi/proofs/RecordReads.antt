@@ -14,6 +14,8 @@ use lib.Seq.{length-take-le}
 use borrow.Author.Tests.{le-ltb, lt-leb}
 use borrow.Rule.Slice.PartMut.{put_mid, mid_of}
 use Rattle.words.specs.Limits.{largest_single}
+use Rattle.std.specs.Prelude.{Result, Ok}
+use Rattle.words.specs.declared.refusals.Refusal.{Refusal}
 use Rattle.words.specs.declared.Word.{Word}
 use Rattle.words.specs.Bytes.{put}
 use Rattle.words.proofs.ByteLaws.{put_mid_lem, put_whole}
@@ -22,7 +24,8 @@ use Rattle.single.specs.Rules.{share}
 use Rattle.single.specs.Nodes.{nodes_from, spread}
 use Rattle.single.specs.Record as single
 use Rattle.single.specs.Bare.{record_share_number, record_share, spread_number, spreading, spread_record, Spreading as Spread}
-use Rattle.single.specs.declared.calls.Share as one_share
+use Rattle.single.specs.Calls.{told_share}
+use Rattle.single.proofs.AnswersTold.{answers_told}
 use Rattle.single.proofs.NodeLaws.{length-spread, get_or-spread}
 use Rattle.placement.specs.Buckets.{size_of, pos_of, Enters}
 use Rattle.placement.proofs.BucketLaws.{pos_lt}
@@ -34,15 +37,15 @@ use Rattle.multi.proofs.CallLaws.{alike_at}
 -- ---- shares
 
 -- a record that is there gives its share
-pub share_there : (H : Word → Word) (p : Bool) (l : List ℕ) (b y : ℕ) (r : one_share.Share) → Here l b y
-    → r ≡ record_share H p (bucket_part l b) y
-    → r.share ≡ share H 64 p (bucket_record l b) y
+pub share_there : (H : Word → Word) (p : Bool) (l : List ℕ) (b y : ℕ) (r : Result ℕ Refusal) → Here l b y
+    → told_share r ≡ record_share H p (bucket_part l b) y
+    → r ≡ Ok (share H 64 p (bucket_record l b) y)
 unfolding record_share record_share_number bucket_record bucket_size
 share_there H p l b y r here e =
     let none : record_share_number (bucket_part l b) y ≡ 0 =
     first_miss _ _ (ap not here.ok) ∙ first_miss _ _ (lt-leb (single.size_in (bucket_part l b)) y here.inside)
     ∙ first-none in
-    ap (λ (q : one_share.Share). q.share) (e ∙ succeeded _ _ _ none)
+    answers_told.one_cell r (Ok (share H 64 p (bucket_record l b) y)) (e ∙ succeeded _ _ _ none)
 
 -- and its shares, where they have room
 pub spread_there : (H : Word → Word) (p : Bool) (l : List ℕ) (c : ℕ) (n : ℕ) (t m : List ℕ)

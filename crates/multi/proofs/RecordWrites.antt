@@ -2,8 +2,8 @@
 --     holders     value_none, value-some
 --     words       used_by_next
 --     lengths     length_most
---     records     by_none, by_some, length_by; stored_by: a record that is written; keys_are: what `make_keys` answers;
---                 from_is: of the parts that were found
+--     records     by_none, by_some, length_by; stored_by: a record that is written; keys_none, keys_made: what `make_keys`
+--                 answers; from_is: of the parts that were found
 -- Assumes nothing.
 use mathlib.Core.Path.{◌≡◌, refl, sym, ap, ◌∙◌}
 use mathlib.Core.Bool.{Bool, true, false}
@@ -14,9 +14,12 @@ use borrow.Author.Tests.{eq-eqb, ne_eqb, eqb-true, eqb-false}
 use lib.Dec.{eqb}
 use lib.ListN.{length, get_or}
 use Rattle.words.specs.Limits.{largest_single}
+use Rattle.std.specs.Prelude.{Ok, Err}
+use Rattle.words.specs.declared.refusals.Refusal.{Refusal}
 use Rattle.words.specs.declared.Word.{Word}
 use Rattle.words.specs.Bytes.{put, stored}
 use Rattle.words.specs.Cells.{word_no}
+use Rattle.words.specs.Refusals.{Domain, first}
 use Rattle.words.specs.Height as height
 use Rattle.words.proofs.ByteLaws.{stored-fits}
 use Rattle.words.proofs.CellLaws.{sum_to_next}
@@ -26,7 +29,8 @@ use Rattle.single.specs.declared.SingleKey.{SingleKey}
 use Rattle.single.specs.Rules.{made}
 use Rattle.single.specs.Keys.{key_of, record_of}
 use Rattle.single.specs.Record as single
-use Rattle.single.specs.Pairs.{keys_for}
+use Rattle.single.specs.declared.pairs.KeyPair as pair
+use Rattle.single.specs.Pairs.{KeyPair, told, keys_tests, keys_number, keys_for}
 use Rattle.single.proofs.KeyLaws.{record_back}
 use Rattle.single.proofs.PairLaws.{keys_pass}
 use Rattle.single.proofs.MadeFits.{made-fits}
@@ -34,6 +38,7 @@ use Rattle.single.proofs.RecordLaws.{count_most, length_none, length-record_byte
 use Rattle.multi.specs.Rules.{words_for}
 use Rattle.multi.specs.Image.{bytes_of}
 use Rattle.multi.specs.Making.{value_at, used_by, record_by, record_from}
+use Rattle.multi.proofs.ToldLaws.{refuses}
 use Rattle.multi.proofs.RecordPlaces.{length-treed, length-zero}
 
 -- ---- holders
@@ -98,11 +103,33 @@ module _ (H : Word → Word) (S α β : ℕ) (r0 r1 : Word) (p : Bool) where
       e ∙ ap (λ (x : List ℕ). stored l at x) bytes ∙ stored-fits l at _ (omega arith)
 
 -- both keys of a size and a point within the limits
-pub keys_are : (H : Word → Word) (S α β : ℕ) (r0 r1 : Word) → (S ≡ 0 → ⊥) → S ≤ largest_single → α ≤ S - 1
+keys_are : (H : Word → Word) (S α β : ℕ) (r0 r1 : Word) → (S ≡ 0 → ⊥) → S ≤ largest_single → α ≤ S - 1
     → keys_for H S α β r0 r1 ≡ record { number = 0; key0 = key_of (made H S α r0 r1 64 β false); key1 = key_of (made H S α r0 r1 64 β true) }
 unfolding keys_for
 keys_are H S α β r0 r1 some few inside =
     succeeded _ _ _ (keys_pass S α (record { some = omega arith; few = few; inside = omega arith }))
+
+-- there are none only over no entries
+pub keys_none : (H : Word → Word) (S α β : ℕ) (r0 r1 : Word) (e : Refusal) → S ≤ largest_single → α ≤ S - 1
+    → told (Err e) ≡ keys_for H S α β r0 r1 → S ≡ 0
+keys_none H zero α β r0 r1 e few inside answer = refl
+keys_none H (suc n) α β r0 r1 e few inside answer =
+    let same = ap (λ (k : KeyPair). k.number) (answer ∙ keys_are H (suc n) α β r0 r1 (λ z. omega arith) few inside) in
+    absurd (refuses e same)
+
+-- else they are made
+pub keys_made : (H : Word → Word) (S α β : ℕ) (r0 r1 : Word) (p : pair.KeyPair) → S ≤ largest_single → α ≤ S - 1
+    → told (Ok p) ≡ keys_for H S α β r0 r1
+    → (S ≡ 0 → ⊥) × (p.key0 ≡ key_of (made H S α r0 r1 64 β false)) × (p.key1 ≡ key_of (made H S α r0 r1 64 β true))
+unfolding keys_for keys_number keys_tests first
+keys_made H zero α β r0 r1 p few inside answer =
+    let same : 0 ≡ Domain = ap (λ (k : KeyPair). k.number) answer in
+    let never : ⊥ = omega arith in
+    absurd never
+keys_made H (suc n) α β r0 r1 p few inside answer =
+    let some : suc n ≡ 0 → ⊥ = λ z. omega arith in
+    let all = answer ∙ keys_are H (suc n) α β r0 r1 some few inside in
+    (some, ap (λ (k : KeyPair). k.key0) all, ap (λ (k : KeyPair). k.key1) all)
 
 module _ (H : Word → Word) (holders sizes spots vs ws : List ℕ) where
   -- of the parts that were found

@@ -8,6 +8,7 @@ use mathlib.Core.Path.{◌≡◌, refl, sym, ap, ◌∙◌, subst}
 use mathlib.Core.Bool.{Bool, true, false, cond}
 use mathlib.Core.List.{List, [], ◌∷◌}
 use mathlib.Core.Logic.{⊎_elim}
+use Rattle.std.specs.Prelude.{Option, Some, None}
 use Prim.Native.Nat.{ℕ, zero, suc, ◌+◌, ◌<◌}
 use native.Mathlib.Nat.{eq-or-lt_of_le, le_of_suc-le-suc}
 use native.Mathlib.Numerals.{add-one}
@@ -20,7 +21,7 @@ use Rattle.words.specs.Refusals.{every}
 use Rattle.words.proofs.TestLaws.{every-none, every_pass, every_fail, every-at}
 use Rattle.single.specs.Record as single
 use Rattle.multi.specs.Image.{buckets_in, entry_in, bucket_part, lengths, next_in, slot_ok, slots_ok}
-use Rattle.multi.proofs.RecordPlaces.{record_start_next, record_start-least, bucket_part-none, bucket_part_there}
+use Rattle.multi.proofs.RecordPlaces.{record_start_next, bucket_part-none, bucket_part_there}
 
 -- ---- slots
 
@@ -37,18 +38,19 @@ pub slot_there : (l : List ℕ) (c : ℕ) → (entry_in l c ≡ 0 → ⊥)
 unfolding slot_ok
 slot_there l c some = rw (ne_eqb (entry_in l c) 0 some)
 
--- what a pass over the slots goes on with: where the next record has to begin, or 0
-abbrev pub next_or : List ℕ → ℕ → ℕ
-next_or l c = cond (slot_ok l c) (next_in l (c + 1)) 0
+-- what a pass over the slots goes on with: where the next record has to begin
+abbrev pub next_or : List ℕ → ℕ → Option ℕ
+next_or l c = cond (slot_ok l c) (Some (next_in l (c + 1))) None
 
 -- no record: the next one begins where this one had to
-pub next_none : (l : List ℕ) (c at : ℕ) → at ≡ next_in l c → entry_in l c ≡ 0 → at ≡ next_or l c
+pub next_none : (l : List ℕ) (c at : ℕ) → at ≡ next_in l c → entry_in l c ≡ 0 → Some at ≡ next_or l c
 next_none l c at p e =
     let empty : length (bucket_part l c) ≡ 0 = ap length (bucket_part-none l c e) in
-    rw (slot_none l c e) (omega (arith, record_start_next (buckets_in l) (lengths (bucket_part l)) c))
+    let next : at ≡ next_in l (c + 1) = omega (arith, record_start_next (buckets_in l) (lengths (bucket_part l)) c) in
+    rw (slot_none l c e) (ap Some next)
 
 -- an entry that points elsewhere
-pub next_elsewhere : (l : List ℕ) (c : ℕ) → (entry_in l c ≡ 0 → ⊥) → (entry_in l c ≡ next_in l c → ⊥) → 0 ≡ next_or l c
+pub next_elsewhere : (l : List ℕ) (c : ℕ) → (entry_in l c ≡ 0 → ⊥) → (entry_in l c ≡ next_in l c → ⊥) → None ≡ next_or l c
 next_elsewhere l c some other = rw (slot_there l c some ∙ every_fail _ (ne_eqb _ _ other))
 
 module _ (l : List ℕ) (c : ℕ) (some : entry_in l c ≡ 0 → ⊥) (at : ℕ) (begins : entry_in l c ≡ at) (due : at ≡ next_in l c) where
@@ -56,40 +58,35 @@ module _ (l : List ℕ) (c : ℕ) (some : entry_in l c ≡ 0 → ⊥) (at : ℕ)
   same_part = sym (bucket_part_there l c some ∙ ap (single.record_part l) begins)
 
   -- no record begins where one has to
-  pub next_bad : single.record_ok largest_single (single.record_part l at) ≡ false → 0 ≡ next_or l c
+  pub next_bad : single.record_ok largest_single (single.record_part l at) ≡ false → None ≡ next_or l c
   next_bad bad =
       rw (slot_there l c some ∙ every_pass _ (eq-eqb _ _ (begins ∙ due))
       ∙ every_fail _ (sym (ap (single.record_ok largest_single) same_part) ∙ bad))
 
   -- one does: the next one begins behind it
   pub next_good : single.record_ok largest_single (single.record_part l at) ≡ true
-      → at + length (single.record_part l at) ≡ next_or l c
+      → Some (at + length (single.record_part l at)) ≡ next_or l c
   next_good good =
       let long : length (single.record_part l at) ≡ length (bucket_part l c) = ap length same_part in
+      let next : at + length (single.record_part l at) ≡ next_in l (c + 1) =
+      omega (arith, record_start_next (buckets_in l) (lengths (bucket_part l)) c) in
       rw (slot_there l c some ∙ every_pass _ (eq-eqb _ _ (begins ∙ due))
       ∙ every_pass _ (sym (ap (single.record_ok largest_single) same_part) ∙ good) ∙ every-none)
-      (omega (arith, record_start_next (buckets_in l) (lengths (bucket_part l)) c))
+      (ap Some next)
 
 -- the pass goes on, or ends
-pub next_on : (l : List ℕ) (c next : ℕ) → next ≡ next_or l c → (next ≡ 0 → ⊥) → (slot_ok l c ≡ true) × (next ≡ next_in l (c + 1))
-next_on l c next e some = go (slot_ok l c) refl
+pub next_on : (l : List ℕ) (c next : ℕ) → Some next ≡ next_or l c → (slot_ok l c ≡ true) × (next ≡ next_in l (c + 1))
+next_on l c next e = go (slot_ok l c) refl
   where
     go : (t : Bool) → slot_ok l c ≡ t → (slot_ok l c ≡ true) × (next ≡ next_in l (c + 1))
-    go true f = (f, e ∙ ap (λ (b : Bool). cond b (next_in l (c + 1)) 0) f)
-    go false f = absurd (some (e ∙ ap (λ (b : Bool). cond b (next_in l (c + 1)) 0) f))
+    go true f = let g = rw f at e in (f, cc)
+    go false f = let g = rw f at e in cc
 
-pub next_off : (l : List ℕ) (c next : ℕ) → next ≡ next_or l c → next ≡ 0 → slot_ok l c ≡ false
-next_off l c next e none = go (slot_ok l c) refl
+pub next_off : (l : List ℕ) (c : ℕ) → None ≡ next_or l c → slot_ok l c ≡ false
+next_off l c e = go (slot_ok l c) refl
   where
     go : (t : Bool) → slot_ok l c ≡ t → slot_ok l c ≡ false
-    go true f =
-        let z : ⊥ =
-        omega (
-          arith,
-          e ∙ ap (λ (b : Bool). cond b (next_in l (c + 1)) 0) f,
-          record_start-least (buckets_in l) (lengths (bucket_part l)) (c + 1),
-        ) in
-        absurd z
+    go true f = let g = rw f at e in cc
     go false f = f
 
 pub slots_none : (l : List ℕ) → slots_ok l 0 ≡ true

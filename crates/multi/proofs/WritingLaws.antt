@@ -12,10 +12,12 @@ use borrow.Author.Tests.{eq-eqb, ne_eqb, ltb-true, ltb-false}
 use lib.Dec.{ltb}
 use lib.ListN.{length, take, drop, get_or, get_or-eq_default}
 use Rattle.words.specs.Limits.{largest_multi, largest_single, most_buckets}
+use Rattle.std.specs.Prelude.{Err}
+use Rattle.words.specs.declared.refusals.Refusal.{Refusal}
 use Rattle.words.specs.declared.Word.{Word}
 use Rattle.words.specs.Bytes.{put}
 use Rattle.words.specs.Cells.{tab}
-use Rattle.words.specs.Refusals.{Place, first, on_success}
+use Rattle.words.specs.Refusals.{Place, first, on_success, number_of}
 use Rattle.words.proofs.CellLaws.{length-tab, get_or-tab, sum_same}
 use Rattle.words.proofs.TestLaws.{first_hit, first_miss, first-clear, succeeded, refused}
 use Rattle.cipher.specs.declared.TreeHash.{TreeHash}
@@ -31,8 +33,9 @@ use Rattle.single.specs.Record as single
 use Rattle.multi.specs.declared.make.Totals.{Totals}
 use Rattle.multi.specs.Rules.{words_for, used_before, words_used, made_record}
 use Rattle.multi.specs.Image.{multi_length, lengths_by, bytes_of, multi_bytes, header_bytes, directory_bytes, records_bytes}
-use Rattle.multi.specs.Calls.{Given, image_length, functions, generate_late, image_made}
+use Rattle.multi.specs.Calls.{Given, image_length, functions, generate_late, image_made, told_made}
 use Rattle.multi.specs.Making.{value_at, used_by, totals_of, Fitting, record_by, record_from, laid_record, laid_bytes, Writing, writing, refusing, room_rows, write_laid, write_given}
+use Rattle.multi.proofs.ToldLaws.{refuses}
 use Rattle.multi.proofs.RecordPlaces.{record_start_same}
 use Rattle.multi.proofs.ImageBytes.{multi_same}
 use Rattle.multi.proofs.LayingLaws.{image_laid}
@@ -55,11 +58,10 @@ laid_fits words sizes spots room0 room1 few small inside e =
     }
 
 module _ (H : Word → Word) (d n : ℕ) (keys holders sizes spots vs ws : List ℕ) (ev : ℕ) (k0 k1 : List ℕ) where
-  pub laid_refused : (number : ℕ) → number ≡ first (room_rows (length ws) (totals_of sizes) (length k0) (length k1))
-      → (number ≡ 0 → ⊥)
-      → refusing number k0 k1 ≡ write_laid H d n keys holders sizes spots vs ws ev k0 k1
+  pub laid_refused : (e : Refusal) → number_of e ≡ first (room_rows (length ws) (totals_of sizes) (length k0) (length k1))
+      → writing (told_made (Err e)) k0 k1 ≡ write_laid H d n keys holders sizes spots vs ws ev k0 k1
   unfolding write_laid
-  laid_refused number e some = rw (← e) (sym (refused number _ _ some))
+  laid_refused e same = rw (← same) (sym (refused (number_of e) _ _ (refuses e)))
 
   images-written : {m0 m1 : List ℕ} (t : Totals) → t ≡ totals_of sizes
       → first (room_rows (length ws) (totals_of sizes) (length k0) (length k1)) ≡ 0

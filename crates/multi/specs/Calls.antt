@@ -14,11 +14,11 @@
 -- Each has its tests in the order of the refusals, in two parts: those that come before anything is written (..Early), and
 -- those that are made with sizes in scratch; then the number answered (..Number) and its promise (Generates, ..). Handing out a
 -- bucket's record is `record_number`, `place_of` and `record_given` of Image. Assumes nothing.
-use Rattle.std.specs.Prelude.{◌≡◌, Bool, true, false, not, cond, List, [], ◌∷◌, ◌++◌, ℕ, zero, suc, ◌+◌, ◌*◌, eqb, leb, ltb, length}
+use Rattle.std.specs.Prelude.{◌≡◌, Bool, true, false, not, cond, List, [], ◌∷◌, ◌++◌, ℕ, zero, suc, ◌+◌, ◌*◌, eqb, leb, ltb, length, Result, Ok, Err}
 use Rattle.words.specs.declared.Word.{Word}
 use Rattle.words.specs.Bytes.{put}
 use Rattle.words.specs.Cells.{tab, added, zeroed}
-use Rattle.words.specs.Refusals.{Count, Point, Scratch, Place, Words, Room, Key, Index, Table, Mismatch, every, first, on_success}
+use Rattle.words.specs.Refusals.{Count, Point, Scratch, Place, Words, Room, Key, Index, Table, Mismatch, every, first, on_success, number_of}
 use Rattle.single.specs.Rules.{Record}
 use Rattle.single.specs.Record.{length_for}
 -- the number of a call over all cells, and scratch and output, or scratch and table, at exit
@@ -26,11 +26,10 @@ pub use Rattle.single.specs.Calls.{Swept, swept}
 use Rattle.placement.specs.Buckets.{size_of}
 use Rattle.placement.specs.Shares.{rising_from}
 use Rattle.placement.specs.Calls.{limit_rows, walk_in}
-use Rattle.multi.specs.declared.calls.Generated.{Generated}
-use Rattle.multi.specs.declared.calls.Share.{Share}
-use Rattle.multi.specs.declared.image.RecordPlace.{RecordPlace}
+use Rattle.words.specs.declared.refusals.Refusal.{Refusal}
+use Rattle.multi.specs.declared.calls.Made.{Made}
 use Rattle.multi.specs.Rules.{multi_share, pairs, words_used, made_record}
-use Rattle.multi.specs.Image.{multi_length, multi_bytes, bytes_of, party_in, buckets_in, domain_in, keys_in, bucket_record, bucket_size, multi_ok, record_number, place_of, record_given}
+use Rattle.multi.specs.Image.{multi_length, multi_bytes, bytes_of, party_in, buckets_in, domain_in, keys_in, bucket_record, bucket_size, multi_ok, record_number, RecordPlace, place_of, record_given}
 
 -- ---- making a pair
 
@@ -79,6 +78,18 @@ module _ (bucket : List ℕ → ℕ → ℕ → ℕ → ℕ) where
 
   unfoldable pub generate_number : Given → ℕ → ℕ → ℕ → ℕ
   generate_number g scratch room0 room1 = first (generate_early g scratch ++ generate_late g room0 room1)
+
+-- 0, the length of either image, the random words used and all evictions; or a refusal's number and zeros
+pub record Generated : Type 0 where
+  pub number : ℕ
+  pub length : ℕ
+  pub words : ℕ
+  pub evictions : ℕ
+
+-- what a result tells as these four
+abbrev pub told_made : Result Made Refusal → Generated
+told_made (Ok made) = record { number = 0; length = made.length; words = made.words; evictions = made.evictions }
+told_made (Err e) = record { number = number_of e; length = 0; words = 0; evictions = 0 }
 
 -- the answer, and scratch and both buffers at exit
 pub record Generating : Type 0 where
@@ -160,6 +171,16 @@ evaluate_at_early l x scratch = (not (multi_ok l), Key) ∷ (leb (domain_in l) x
 
 unfoldable pub evaluate_at_number : (List ℕ → ℕ → ℕ → ℕ → ℕ) → List ℕ → ℕ → ℕ → ℕ
 evaluate_at_number bucket l x scratch = first (evaluate_at_early l x scratch ++ late bucket l)
+
+-- 0 and the share, or a refusal's number and 0
+pub record Share : Type 0 where
+  pub number : ℕ
+  pub share : ℕ
+
+-- what a result tells as these two
+abbrev pub told_share : Result ℕ Refusal → Share
+told_share (Ok share) = record { number = 0; share = share }
+told_share (Err e) = record { number = number_of e; share = 0 }
 
 -- the answer, and scratch at exit
 pub record Reading : Type 0 where

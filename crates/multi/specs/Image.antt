@@ -17,16 +17,17 @@
 --     bucket_part l c                 the part of the image that is bucket c's record, empty where it has none
 --     bucket_record l c               the record in it; bucket_size l c: its size, 0 where it has none
 --     multi_ok l                      whether bytes are a multi image
---     record_number l c, place_of l c, record_given l c    handing out a bucket's record
+--     record_number l c, place_of l c, record_given l c    handing out a bucket's record; told_place: what a result tells of it
 -- Assumes nothing.
-use Rattle.std.specs.Prelude.{Bool, true, not, cond, List, [], ◌∷◌, ◌++◌, ℕ, zero, suc, ◌+◌, ◌*◌, leb, eqb, length, take, drop, get_or}
+use Rattle.std.specs.Prelude.{Bool, true, not, cond, List, [], ◌∷◌, ◌++◌, ℕ, zero, suc, ◌+◌, ◌*◌, leb, eqb, length, take, drop, get_or, Result, Ok, Err}
 use Rattle.words.specs.Limits.{largest_multi, largest_single, most_buckets}
 use Rattle.words.specs.Bytes.{le_bytes, field}
 use Rattle.words.specs.Cells.{sum_to}
-use Rattle.words.specs.Refusals.{Key, Index, every, first, on_success}
+use Rattle.words.specs.Refusals.{Key, Index, every, first, on_success, number_of}
 use Rattle.single.specs.Rules.{Record}
 use Rattle.single.specs.Record as single
-use Rattle.multi.specs.declared.image.RecordPlace.{RecordPlace}
+use Rattle.words.specs.declared.refusals.Refusal.{Refusal}
+use Rattle.multi.specs.declared.image.RecordPlace as code
 
 -- ---- lengths
 
@@ -144,12 +145,22 @@ multi_ok l = every (header_ok l ∷ slots_ok l (buckets_in l) ∷ eqb (next_in l
 unfoldable pub record_number : List ℕ → ℕ → ℕ
 record_number l c = first ((not (multi_ok l), Key) ∷ (leb (buckets_in l) c, Index) ∷ [])
 
--- where it begins and how long it is; zeros where there is none
+-- the number, and where it begins and how long it is; zeros where there is none
+pub record RecordPlace : Type 0 where
+  pub number : ℕ
+  pub start : ℕ
+  pub bytes : ℕ
+
 unfoldable pub place_of : List ℕ → ℕ → RecordPlace
 place_of l c =
     on_success (record_number l c)
     (record { number = 0; start = entry_in l c; bytes = length (bucket_part l c) })
     (record { number = record_number l c; start = 0; bytes = 0 })
+
+-- what a result tells of it
+abbrev pub told_place : Result code.RecordPlace Refusal → RecordPlace
+told_place (Ok place) = record { number = 0; start = place.start; bytes = place.bytes }
+told_place (Err e) = record { number = number_of e; start = 0; bytes = 0 }
 
 -- that part of the image
 unfoldable pub record_given : List ℕ → ℕ → List ℕ

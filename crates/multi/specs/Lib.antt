@@ -4,6 +4,7 @@ pub mod Rules
 pub mod Image
 pub mod Calls
 pub mod Making
+pub mod Posted
 pub mod Reading
 pub mod Tables
 pub mod ReadBack

@@ -19,10 +19,9 @@ use Rattle.placement.specs.Calls.{walk_in}
 use Rattle.single.specs.Rules.{Record, made}
 use Rattle.single.specs.Record.{no_record}
 use Rattle.multi.specs.declared.make.Totals.{Totals}
-use Rattle.multi.specs.declared.calls.Generated.{Generated}
 use Rattle.multi.specs.Rules.{words_for, words_used}
 use Rattle.multi.specs.Image.{multi_length, lengths_by, bytes_of, multi_bytes}
-use Rattle.multi.specs.Calls.{Given, image_length, functions, generate_late, image_made}
+use Rattle.multi.specs.Calls.{Given, Generated, image_length, functions, generate_late, image_made}
 
 unfoldable pub value_at : List ℕ → ℕ → ℕ
 value_at vs k = elim k [ zero ↦ 0 | suc p ↦ get_or vs p 0 ]

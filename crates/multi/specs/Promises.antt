@@ -3,10 +3,12 @@
 --     RecordsMade     each made record has its bucket's size, fits its place, and uses words that are there
 --     MadeKeysRead    what the maker writes, every reader accepts and reads back
 --     OwnKeysRead     the same of the library's own tree hash and bucket functions: nothing is left to assume
+--     RefusalsTold    what is told as numbers is told whole
 --     PairsAdd        demand 3 for lists of pairs, single and multi mixed, for every kind of image that gives the rules' shares
 --     RunsExist       demand 3 speaks of something: where made images are accepted, a run takes each of them
 -- Assumes nothing.
-use Rattle.std.specs.Prelude.{◌≡◌, Bool, true, false, List, map, ℕ, ◌+◌, ◌*◌, ◌-◌, ◌%◌, ◌^◌, ◌≤◌, ◌<◌, length}
+use Rattle.std.specs.Prelude.{◌≡◌, Bool, true, false, List, map, ℕ, ◌+◌, ◌*◌, ◌-◌, ◌%◌, ◌^◌, ◌≤◌, ◌<◌, length, Result}
+use Rattle.words.specs.declared.refusals.Refusal.{Refusal}
 use Rattle.words.specs.declared.Word.{Word}
 use Rattle.words.specs.Bytes.{Halves}
 use Rattle.words.specs.Word.{On128}
@@ -19,9 +21,11 @@ use Rattle.placement.specs.Buckets.{size_of}
 use Rattle.placement.specs.Walk.{Placement, walk_of}
 use Rattle.placement.specs.Shares.{at_points, posted, Rising}
 use Rattle.placement.specs.Calls.{walk_in}
+use Rattle.multi.specs.declared.calls.Made.{Made}
+use Rattle.multi.specs.declared.image.RecordPlace as code
 use Rattle.multi.specs.Rules.{words_for, used_before, words_used, made_record, made_share}
-use Rattle.multi.specs.Image.{buckets_in, domain_in, count_in, keys_in, bucket_record, multi_ok}
-use Rattle.multi.specs.Calls.{Given, functions, image_length, generate_number, record_made, image_made, side_in, matches, evaluate_at_number, evaluate_domain_number, add_to_number, share_in}
+use Rattle.multi.specs.Image.{buckets_in, domain_in, count_in, keys_in, bucket_record, multi_ok, told_place}
+use Rattle.multi.specs.Calls.{Given, functions, image_length, generate_number, record_made, image_made, side_in, matches, evaluate_at_number, evaluate_domain_number, add_to_number, share_in, told_made, told_share}
 use Rattle.multi.specs.Tables.{MixedPosting, mixed_posted, share_for}
 
 -- ---- the sum rule
@@ -102,6 +106,14 @@ MadeKeysRead = (H : Word → Word) → On128 H → (bucket : List ℕ → ℕ �
 -- the library's own tree hash and bucket functions: nothing is left to assume
 abbrev pub OwnKeysRead : Type 0
 OwnKeysRead = (g : Given) → Accepted bucket_of g → (p : Bool) → ReadBack tree_hash bucket_of g p
+
+-- ---- answers
+
+-- a result is told as numbers, as C sees it, and no two results are told alike: a promise of what is told leaves no choice either
+pub record RefusalsTold : Type 0 where
+  pub made : (r s : Result Made Refusal) → told_made r ≡ told_made s → r ≡ s
+  pub shares : (r s : Result ℕ Refusal) → told_share r ≡ told_share s → r ≡ s
+  pub places : (r s : Result code.RecordPlace Refusal) → told_place r ≡ told_place s → r ≡ s
 
 -- ---- demand 3
 

@@ -10,6 +10,7 @@
 --     Ready l s                   the starts stand in front, and there is room behind 2B elements for all entries
 --     with_shares H h l s          what is left in scratch for the sums: behind starts and sizes the shares of all buckets
 --     Sweepable adding l s o      what a pass over all cells needs: the shares in front of the cells o, or added to them
+--     Gathers adding h l w o ..     what a pass over the cells leaves of scratch and of the cells
 --     cells_filled adding H h l o  where the sizes match, the cells o with the shares of all cells in front, or added
 -- Assumes nothing.
 use Rattle.std.specs.Prelude.{◌≡◌, Bool, true, cond, List, ◌++◌, ℕ, ◌+◌, ◌*◌, ◌≤◌, ◌<◌, length, get_or}
@@ -22,10 +23,10 @@ use Rattle.single.specs.Rules.{share}
 use Rattle.single.specs.Nodes.{spread}
 use Rattle.single.specs.Record.{record_ok}
 use Rattle.placement.specs.Buckets.{size_of, start_of}
-use Rattle.multi.specs.declared.calls.Share.{Share}
+use Rattle.placement.specs.Passes.{gathered}
 use Rattle.multi.specs.Rules.{multi_share}
 use Rattle.multi.specs.Image.{buckets_in, domain_in, bucket_part, bucket_record, bucket_size, records_bytes, multi_ok}
-use Rattle.multi.specs.Calls.{side_in, alike, domain_room}
+use Rattle.multi.specs.Calls.{Share, side_in, alike, domain_room}
 
 pub record Here (l : List ℕ) (b y : ℕ) : Type 0 where
   pub few : b ≤ most_buckets
@@ -78,6 +79,11 @@ pub record Sweepable (adding : Bool) (l s o : List ℕ) : Type 0 where
 -- numbers f, D of them, in front of o, or added to the cells of o
 abbrev pub filled_by : Bool → (ℕ → ℕ) → ℕ → List ℕ → List ℕ
 filled_by adding f D o = cond adding (added 64 f o) (put o 0 (tab f D))
+
+-- what a pass over the cells leaves of scratch w and of cells o: the sizes behind the starts, and the sums
+pub record Gathers (adding : Bool) (h : ℕ → ℕ → ℕ) (l w o w' o' : List ℕ) : Type 0 where
+  pub sizes : w' ≡ put w (buckets_in l) (tab (size_of h (domain_in l)) (buckets_in l))
+  pub sums : o' ≡ filled_by adding (gathered h (domain_in l) (buckets_in l) w) (domain_in l) o
 
 unfoldable pub cells_filled : Bool → (Word → Word) → (ℕ → ℕ → ℕ) → List ℕ → List ℕ → List ℕ
 cells_filled adding H h l o = cond (matches_by h l) (filled_by adding (share_by H h l) (domain_in l) o) o

@@ -1,112 +1,137 @@
 // The multi image: its fields, the check, and a bucket's record as that part of the image (document 01, "Key images").
 // Meanings: specs/Image.antt. A read takes bytes that are not there as none.
-ghost use Rattle.std.specs.Prelude.{◌≡◌, cond, [], ◌∷◌, ◌+◌, ◌*◌, ◌≤◌, ◌<◌, eqb, length};
+ghost use Rattle.std.specs.Prelude.{◌≡◌, true, not, cond, Some, None, IfOk, [], ◌∷◌, ◌+◌, ◌*◌, ◌≤◌, ◌<◌, eqb, length};
 ghost use Rattle.words.specs.Limits.{most_buckets};
-ghost use Rattle.words.specs.Refusals.{every};
+ghost use Rattle.words.specs.Refusals.{Key, every, first, outcome};
+ghost use Rattle.bucket_hash.specs.BucketHash.{bucket_of, bucket_by};
 ghost use Rattle.single.specs.Record as single-record;
 ghost use Rattle.multi.specs.Image as spec;
+ghost use Rattle.multi.specs.Calls.{side_in, functions_in};
 
+use bucket_hash::Hashes;
 use single::record::{record_length, record_ok};
-use words::{bytes, limits, refusals};
+use words::refusals::Refusal;
+use words::{bytes, limits};
 
 // Where the directory begins.
 const DIRECTORY: u64 = 72;
 
-// Where a bucket's record stands: 0, where it begins and how many bytes it has; zeros where there is none.
-#[derive(Clone, Copy)]
+// Where a bucket's record begins and how many bytes it has; zeros where there is none.
+#[derive(Clone, Copy, Debug, PartialEq, Eq)]
 pub struct RecordPlace {
-    pub number: u64,
     pub start: u64,
     pub bytes: u64,
 }
 
-// ---- the header
-
-pub(crate) fn party(key: &[u8]) -> u64
-    ensures { result ≡ spec.party_in key.now }
-{
-    bytes::get_u32(key, 0)
+// A multi image: bytes that pass the check.
+#[derive(Clone, Copy)]
+pub(crate) struct Image<'a> {
+    pub(crate) bytes: &'a [u8],
+    ghost ok: { spec.multi_ok bytes.now ≡ true },
 }
 
-pub(crate) fn buckets(key: &[u8]) -> u64
-    ensures { result ≡ spec.buckets_in key.now }
-{
-    bytes::get_u32(key, 4)
-}
-
-pub(crate) fn domain(key: &[u8]) -> u64
-    ensures { result ≡ spec.domain_in key.now }
-{
-    bytes::get_u64(key, 8)
-}
-
-// The three hash keys.
-pub(crate) fn hash_keys(key: &[u8]) -> [u8; 48]
-    requires { 72 ≤ length key.now }
-    ensures { result ≡ spec.keys_in key.now }
-{
-    let mut keys = [0u8; 48];
-    let mut i: usize = 0;
-    while i < 48 {
-        keys[i] = key[24 + i];
-        i += 1;
+impl<'a> Image<'a> {
+    // The image, if the bytes are one, or Key.
+    #[tactic(auto, unfolding(words::specs::Refusals::first))]
+    pub(crate) fn read(bytes: &'a [u8]) -> Result<Image<'a>, Refusal>
+        ensures answer { outcome result ≡ first ((not (spec.multi_ok bytes.now), Key) ∷ []) }
+        ensures image { IfOk result (λ image. image.bytes.now ≡ bytes.now) }
+    {
+        if is_image(bytes) {
+            return Ok(Image { bytes });
+        }
+        Err(Refusal::Key)
     }
-    keys
+
+    // Whether it is party 1's.
+    pub(crate) fn side(&self) -> bool
+        ensures { result ≡ side_in self.now.bytes.now }
+    {
+        bytes::get_u32(self.bytes, 0) == 1
+    }
+
+    pub(crate) fn buckets(&self) -> u64
+        ensures { result ≡ spec.buckets_in self.now.bytes.now }
+    {
+        bytes::get_u32(self.bytes, 4)
+    }
+
+    pub(crate) fn domain(&self) -> u64
+        ensures { result ≡ spec.domain_in self.now.bytes.now }
+    {
+        bytes::get_u64(self.bytes, 8)
+    }
+
+    // The bucket functions of the image's hash keys.
+    pub(crate) fn hashes(&self) -> Hashes
+        ensures { bucket_by result (spec.buckets_in self.now.bytes.now) ≡ functions_in bucket_of self.now.bytes.now }
+    {
+        Hashes::new(self.hash_keys())
+    }
+
+    // The three hash keys.
+    #[tactic(auto, using(crate::proofs::ImageLaws::header_long), unfolding(crate::specs::Image::keys_in))]
+    fn hash_keys(&self) -> [u8; 48]
+        ensures { result ≡ spec.keys_in self.now.bytes.now }
+    {
+        let mut keys = [0u8; 48];
+        keys.copy_from_slice(&self.bytes[24..72]);
+        keys
+    }
+
+    // The part that is bucket c's record; empty where it has none.
+    pub(crate) fn part(&self, c: usize) -> &'a [u8]
+        requires { c ≤ most_buckets }
+        ensures { result.now ≡ spec.bucket_part self.now.bytes.now c }
+    {
+        part(self.bytes, c)
+    }
+
+    // The size of bucket c's record; 0 where it has none.
+    #[tactic(auto, unfolding(crate::specs::Image::bucket_size))]
+    pub(crate) fn size(&self, c: usize) -> u64
+        requires { c ≤ most_buckets }
+        ensures { result ≡ spec.bucket_size self.now.bytes.now c }
+    {
+        bytes::get_u64(self.part(c), 0)
+    }
 }
+
+// ---- the header
 
 // Whether the header's numbers are within their limits, and the directory is there.
 #[tactic(auto, unfolding(crate::specs::Image::header_tests, words::specs::Refusals::every))]
-fn numbers_ok(party: u64, b: u64, d: u64, n: u64, offset: u64, len: u64) -> bool
-    ensures { result ≡ every (spec.header_tests party b d n offset len) }
-{
-    if 1 < party {
-        return false;
-    }
-    if b < 1 {
-        return false;
-    }
-    if limits::MOST_BUCKETS < b {
-        return false;
-    }
-    if d < 1 {
-        return false;
-    }
-    if limits::LARGEST_MULTI < d {
-        return false;
-    }
-    if n < 1 {
-        return false;
-    }
-    if b < n {
-        return false;
-    }
-    if offset != DIRECTORY {
-        return false;
-    }
-    if len < DIRECTORY + 8 * b {
-        return false;
-    }
-    true
-}
-
 fn header_ok(key: &[u8]) -> bool
     ensures { result ≡ spec.header_ok key.now }
 {
+    let party = bytes::get_u32(key, 0);
+    let b = bytes::get_u32(key, 4);
+    let d = bytes::get_u64(key, 8);
     let n = bytes::get_u32(key, 16);
     let offset = bytes::get_u32(key, 20);
-    numbers_ok(
-        party(key),
-        buckets(key),
-        domain(key),
-        n,
-        offset,
-        key.len() as u64,
-    )
+    party <= 1
+        && 1 <= b
+        && b <= limits::MOST_BUCKETS
+        && 1 <= d
+        && d <= limits::LARGEST_MULTI
+        && 1 <= n
+        && n <= b
+        && offset == DIRECTORY
+        && DIRECTORY + 8 * b <= key.len() as u64
 }
 
 // ---- the directory
 
+// The bytes of a record over so many entries; 0 where there is no such record.
+#[tactic(auto, using(crate::proofs::RecordPlaces::length_or_none))]
+pub(crate) fn length_for(size: u64) -> u64
+    ensures { result ≡ single-record.length_for size }
+{
+    record_length(size).unwrap_or(0)
+}
+
 // The entry of bucket c.
+#[tactic(auto, unfolding(crate::specs::Image::entry_in))]
 fn entry(key: &[u8], c: usize) -> u64
     requires { c ≤ most_buckets }
     ensures { result ≡ spec.entry_in key.now c }
@@ -118,7 +143,7 @@ fn entry(key: &[u8], c: usize) -> u64
 fn part_at(key: &[u8], at: usize) -> &[u8]
     ensures { result.now ≡ single-record.record_part key.now at }
 {
-    let n = record_length(bytes::get_u64(key, at)) as usize;
+    let n = length_for(bytes::get_u64(key, at)) as usize;
     let len = key.len();
     if len <= at {
         return &key[..0];
@@ -131,7 +156,7 @@ fn part_at(key: &[u8], at: usize) -> &[u8]
 }
 
 // The part of the image that is bucket c's record; empty where it has none.
-pub(crate) fn part(key: &[u8], c: usize) -> &[u8]
+fn part(key: &[u8], c: usize) -> &[u8]
     requires { c ≤ most_buckets }
     ensures { result.now ≡ spec.bucket_part key.now c }
 {
@@ -142,34 +167,26 @@ pub(crate) fn part(key: &[u8], c: usize) -> &[u8]
     part_at(key, e as usize)
 }
 
-// The size of bucket c's record; 0 where it has none.
-pub(crate) fn size(key: &[u8], c: usize) -> u64
-    requires { c ≤ most_buckets }
-    ensures { result ≡ spec.bucket_size key.now c }
-{
-    bytes::get_u64(part(key, c), 0)
-}
-
 // ---- the check
 
-// Where the record behind bucket c's has to begin, if bucket c's has to begin at `at`; 0 where the slot of bucket c is not ok.
-fn next_start(key: &[u8], c: usize, at: usize) -> usize
+// Where the record behind bucket c's has to begin, if bucket c's has to begin at `at`; none where the slot of bucket c is not ok.
+fn next_start(key: &[u8], c: usize, at: usize) -> Option<usize>
     requires c_le_most_buckets { c ≤ most_buckets }
     requires at_value { at ≡ spec.next_in key.now c }
-    ensures { result ≡ cond (spec.slot_ok key.now c) (spec.next_in key.now (c + 1)) 0 }
+    ensures { result ≡ cond (spec.slot_ok key.now c) (Some (spec.next_in key.now (c + 1))) None }
 {
     let e = entry(key, c);
     if e == 0 {
-        return at;
+        return Some(at);
     }
     if e != at as u64 {
-        return 0;
+        return None;
     }
     let record = part_at(key, at);
     if record_ok(record, limits::LARGEST_SINGLE) {
-        return at + record.len();
+        return Some(at + record.len());
     }
-    0
+    None
 }
 
 // Whether every slot is ok, and the last record ends the image.
@@ -179,72 +196,64 @@ fn slots_ok(key: &[u8], n: usize) -> bool
         ∷ eqb (spec.next_in key.now n) (length key.now) ∷ []) }
 {
     let mut at: usize = 72 + 8 * n;
-    let mut c: usize = 0;
-    while c < n {
-        let next = next_start(key, c, at);
-        if next == 0 {
+    for c in 0..n {
+        let Some(next) = next_start(key, c, at) else {
             return false;
-        }
+        };
         at = next;
-        c += 1;
     }
     at == key.len()
 }
 
 // Whether the bytes are a multi image: one pass over the directory.
-pub(crate) fn image_ok(key: &[u8]) -> bool
+fn is_image(key: &[u8]) -> bool
     ensures { result ≡ spec.multi_ok key.now }
 {
-    if header_ok(key) {
-        return slots_ok(key, buckets(key) as usize);
-    }
-    false
+    header_ok(key) && slots_ok(key, bytes::get_u32(key, 4) as usize)
 }
 
 // ---- handing out a bucket's record
 
-// 0, or the refusal of handing out a bucket's record: Key, then Index.
+// The image, if a bucket's record may be handed out: Key, then Index.
 #[tactic(auto, unfolding(crate::specs::Image::record_number, words::specs::Refusals::first))]
-pub fn record_number(key: &[u8], bucket: u64) -> u64
-    ensures { result ≡ spec.record_number key.now bucket }
+fn with_bucket(key: &[u8], bucket: u64) -> Result<Image, Refusal>
+    ensures answer { outcome result ≡ spec.record_number key.now bucket }
+    ensures image { IfOk result (λ image. image.bytes.now ≡ key.now) }
 {
-    if image_ok(key) {
-        if buckets(key) <= bucket {
-            return refusals::INDEX;
-        }
-        return 0;
+    let image = Image::read(key)?;
+    if image.buckets() <= bucket {
+        return Err(Refusal::Index);
     }
-    refusals::KEY
+    Ok(image)
+}
+
+// Whether a bucket's record may be handed out. Refusals: Key, then Index.
+pub fn record_number(key: &[u8], bucket: u64) -> Result<(), Refusal>
+    ensures { outcome result ≡ spec.record_number key.now bucket }
+{
+    with_bucket(key, bucket)?;
+    Ok(())
 }
 
 // A bucket's record as that part of the image; empty where there is none, or the call refuses.
 pub fn record(key: &[u8], bucket: u64) -> &[u8]
     ensures { result.now ≡ spec.record_given key.now bucket }
 {
-    if record_number(key, bucket) != 0 {
+    let Ok(image) = with_bucket(key, bucket) else {
         return &key[..0];
-    }
-    part(key, bucket as usize)
+    };
+    image.part(bucket as usize)
 }
 
-// Where that part begins and how many bytes it has.
-pub fn record_place(key: &[u8], bucket: u64) -> RecordPlace
-    ensures { result ≡ spec.place_of key.now bucket }
+// Where that part begins and how many bytes it has. Refusals: Key, then Index.
+#[tactic(auto, using(crate::proofs::ImageLaws::place_refused))]
+pub fn record_place(key: &[u8], bucket: u64) -> Result<RecordPlace, Refusal>
+    ensures { spec.told_place result ≡ spec.place_of key.now bucket }
 {
-    let number = record_number(key, bucket);
-    if number != 0 {
-        return RecordPlace {
-            number,
-            start: 0,
-            bytes: 0,
-        };
-    }
+    let image = with_bucket(key, bucket)?;
     let c = bucket as usize;
-    let start = entry(key, c);
-    let record = part(key, c);
-    RecordPlace {
-        number: 0,
-        start,
-        bytes: record.len() as u64,
-    }
+    Ok(RecordPlace {
+        start: entry(key, c),
+        bytes: image.part(c).len() as u64,
+    })
 }

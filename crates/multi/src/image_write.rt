@@ -4,7 +4,7 @@ ghost use Rattle.std.specs.Prelude.{◌≡◌, cond, ◌≤◌, eqb, length};
 ghost use Rattle.words.specs.Bytes.{put};
 ghost use Rattle.multi.specs.Image as spec;
 
-use single::record::record_length;
+use crate::image::length_for;
 use words::bytes;
 
 // Where the hash keys begin.
@@ -13,15 +13,12 @@ const KEYS: usize = 24;
 // ---- the header
 
 // The three hash keys in their place.
+#[tactic(auto, using(std::proofs::lemmas::List::append_assoc), unfolding(words::specs::Bytes::put))]
 fn put_keys(keys: [u8; 48], buf: &mut [u8])
     requires { 72 ≤ length buf.old }
     ensures { buf.new ≡ put buf.old 24 keys }
 {
-    let mut i: usize = 0;
-    while i < 48 {
-        buf[KEYS + i] = keys[i];
-        i += 1;
-    }
+    buf[KEYS..KEYS + 48].copy_from_slice(&keys);
 }
 
 // The first 72 bytes.
@@ -36,11 +33,12 @@ pub(crate) fn put_header(
     requires { 72 ≤ length buf.old }
     ensures { buf.new ≡ put buf.old 0 (spec.header_bytes party buckets domain count keys) }
 {
-    bytes::put_u32(buf, 0, party);
-    bytes::put_u32(buf, 4, buckets);
-    bytes::put_u64(buf, 8, domain);
-    bytes::put_u32(buf, 16, count);
-    bytes::put_u32(buf, 20, 72);
+    // There is room for all of them.
+    let _ = bytes::put_u32(buf, 0, party);
+    let _ = bytes::put_u32(buf, 4, buckets);
+    let _ = bytes::put_u64(buf, 8, domain);
+    let _ = bytes::put_u32(buf, 16, count);
+    let _ = bytes::put_u32(buf, 20, 72);
     put_keys(keys, buf);
 }
 
@@ -56,19 +54,17 @@ fn entry_for(len: u64, at: u64) -> u64
     at
 }
 
-// The directory of n buckets whose records have these sizes; a size of 0 is no record.
-pub(crate) fn put_directory(n: usize, sizes: &[u64], buf: &mut [u8])
-    requires n_in_bounds { n ≤ length sizes.now }
-    requires sizes_in_bounds { spec.multi_length n (spec.lengths_by sizes.now) ≤ length buf.old }
+// The directory of buckets whose records have these sizes; a size of 0 is no record.
+pub(crate) fn put_directory(sizes: &[u64], buf: &mut [u8])
+    requires { spec.multi_length (length sizes.now) (spec.lengths_by sizes.now) ≤ length buf.old }
     ensures { buf.new ≡ put buf.old 72
-        (spec.directory_bytes n (spec.lengths_by sizes.now) n) }
+        (spec.directory_bytes (length sizes.now) (spec.lengths_by sizes.now) (length sizes.now)) }
 {
-    let mut at: u64 = 72 + 8 * n as u64;
-    let mut c: usize = 0;
-    while c < n {
-        let len = record_length(sizes[c]);
-        bytes::put_u64(buf, 72 + 8 * c, entry_for(len, at));
+    let mut at: u64 = 72 + 8 * sizes.len() as u64;
+    for (c, size) in sizes.iter().enumerate() {
+        let len = length_for(*size);
+        // There is room for the directory.
+        let _ = bytes::put_u64(buf, 72 + 8 * c, entry_for(len, at));
         at += len;
-        c += 1;
     }
 }

@@ -1,12 +1,9 @@
 -- `multi::image::next_start` meets its contract: an entry is 0, points elsewhere, or says where the next record begins; and
 -- there is a record there or not. Assumes nothing.
 use mathlib.Core.Path.{◌≡◌, sym, ap, ◌∙◌}
-use native.Mathlib.Omega.{arith}
-use lib.ListN.{length}
 use Rattle.words.specs.Limits.{largest_single}
 use Rattle.single.specs.Record as single
 use Rattle.multi.specs.Image.{entry_in}
-use Rattle.multi.proofs.RecordPlaces.{standing}
 use Rattle.multi.proofs.SlotLaws.{next_none, next_elsewhere, next_bad, next_good}
 use Rattle.multi.proofs.image.next_start.Goals as goal
 
@@ -18,13 +15,6 @@ pub returns-then-e-at : goal.returns-then-e-at
 returns-then-e-at c =
     let e = c.entry-e.ensures in
     next_elsewhere _ _ (λ z. c.if-e-eq0.false (e ∙ z)) (λ z. c.if-e-at.true (e ∙ z ∙ sym c.requires.at_value))
-
-pub overflow_add-result : goal.overflow_add-result
-overflow_add-result c =
-    let asked : single.record_ok largest_single (single.record_part c.args.key.now c.args.at) ≡ c.record_ok.result = sym (c.record_ok.ensures ∙ ap (single.record_ok largest_single) c.part_at-record.ensures) in
-    let there = standing largest_single c.args.key.now c.args.at (asked ∙ c.if-record_ok.true) in
-    let long = ap length c.part_at-record.ensures in
-    omega (arith, there.inside, there.long, long, c)
 
 pub returns-then-record_ok : goal.returns-then-record_ok
 returns-then-record_ok c =

@@ -1,13 +1,9 @@
 -- `multi::image::slots_ok` meets its contract. The invariant: the slots before c are ok, and `at` is where the next record has
--- to begin. The measure is how many slots are left. Assumes nothing.
+-- to begin. Assumes nothing.
 use mathlib.Core.Path.{◌≡◌}
 use mathlib.Core.Bool.{true}
-use Prim.Native.Nat.{◌-◌, ◌≤◌}
 use Rattle.multi.specs.Image.{next_in, slots_ok}
 use Rattle.multi.proofs.image.slots_ok.Given as goal
 
 abbrev pub invariant-loop-c : goal.invariant-loop-c
-invariant-loop-c l = (l.c ≤ l.n) × (l.at ≡ next_in l.key l.c) × (slots_ok l.key l.c ≡ true)
-
-abbrev pub decreases-loop-c : goal.decreases-loop-c
-decreases-loop-c l = l.n - l.c
+invariant-loop-c l = record { due : l.at ≡ next_in l.key l.c; ok : slots_ok l.key l.c ≡ true }
