@@ -7,7 +7,7 @@
 use Rattle.std.specs.Prelude.{ℕ, List, [], ◌∷◌, get_or}
 use Rattle.words.specs.declared.Word.{Word}
 use Rattle.single.specs.Calls as single
-use Rattle.multi.specs.declared.image.RecordPlace.{RecordPlace}
+use Rattle.multi.specs.Image.{RecordPlace}
 use Rattle.multi.specs.Calls as multi
 
 abbrev pub halves : Word → List ℕ

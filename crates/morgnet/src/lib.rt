@@ -17,6 +17,7 @@ ghost use Rattle.morgnet.specs.Face as face;
 use bucket_hash::Hashes;
 use cipher::{Aes, TreeHash};
 use words::Word;
+use words::refusals::number_in;
 
 // ---- single keys
 
@@ -34,9 +35,12 @@ pub extern "C" fn morgnet_single_generate_keys(
     ensures { (result, answer.new, key0.new, key1.new)
         ≡ face.pair_made (single.generate_keys tree_hash domain point value words.now key0.old key1.old) }
 {
-    let r = single::calls::generate_keys(domain, point, value, words, key0, key1);
-    *answer = [r.length, r.words];
-    r.number
+    let made = single::calls::generate_keys(domain, point, value, words, key0, key1);
+    *answer = match made {
+        Ok(m) => [m.length, m.words],
+        Err(_) => [0, 0],
+    };
+    number_in(&made)
 }
 
 // `single::calls::evaluate_at`.
@@ -45,9 +49,9 @@ pub extern "C" fn morgnet_single_evaluate_at(key: &[u8], index: u64, share: &mut
     ensures answer { result ≡ (single.evaluate_at tree_hash key.now index).number }
     ensures share { share.new ≡ (single.evaluate_at tree_hash key.now index).share }
 {
-    let r = single::calls::evaluate_at(key, index);
-    *share = r.share;
-    r.number
+    let answer = single::calls::evaluate_at(key, index);
+    *share = answer.unwrap_or(0);
+    number_in(&answer)
 }
 
 // `single::calls::evaluate_domain`.
@@ -60,7 +64,7 @@ pub extern "C" fn morgnet_single_evaluate_domain(
     ensures { single.swept result scratch.new out.new
         ≡ single.evaluate_domain tree_hash key.now scratch.old out.old }
 {
-    single::calls::evaluate_domain(key, scratch, out)
+    number_in(&single::calls::evaluate_domain(key, scratch, out))
 }
 
 // `single::calls::add_to`.
@@ -69,7 +73,7 @@ pub extern "C" fn morgnet_single_add_to(key: &[u8], scratch: &mut [u64], table: 
     ensures { single.swept result scratch.new table.new
         ≡ single.add_to tree_hash key.now scratch.old table.old }
 {
-    single::calls::add_to(key, scratch, table)
+    number_in(&single::calls::add_to(key, scratch, table))
 }
 
 // ---- multi keys
@@ -93,12 +97,14 @@ pub extern "C" fn morgnet_multi_generate_keys(
         (multi.given domain buckets keys.now points.now values.now words.now)
         scratch.old key0.old key1.old) }
 {
-    let k = *keys;
-    let r = multi::calls::generate_keys(
-        domain, buckets, k, points, values, words, scratch, key0, key1,
+    let made = multi::calls::generate_keys(
+        domain, buckets, *keys, points, values, words, scratch, key0, key1,
     );
-    *answer = [r.length, r.words, r.evictions];
-    r.number
+    *answer = match made {
+        Ok(m) => [m.length, m.words, m.evictions],
+        Err(_) => [0, 0, 0],
+    };
+    number_in(&made)
 }
 
 // `multi::calls::evaluate_at`.
@@ -112,9 +118,9 @@ pub extern "C" fn morgnet_multi_evaluate_at(
     ensures { multi.reading (record { number = result; share = share.new }) scratch.new
         ≡ multi.evaluate_at tree_hash bucket_of key.now index scratch.old }
 {
-    let r = multi::calls::evaluate_at(key, index, scratch);
-    *share = r.share;
-    r.number
+    let answer = multi::calls::evaluate_at(key, index, scratch);
+    *share = answer.unwrap_or(0);
+    number_in(&answer)
 }
 
 // `multi::calls::evaluate_domain`.
@@ -127,7 +133,7 @@ pub extern "C" fn morgnet_multi_evaluate_domain(
     ensures { multi.swept result scratch.new out.new
         ≡ multi.evaluate_domain tree_hash bucket_of key.now scratch.old out.old }
 {
-    multi::calls::evaluate_domain(key, scratch, out)
+    number_in(&multi::calls::evaluate_domain(key, scratch, out))
 }
 
 // `multi::calls::add_to`.
@@ -136,7 +142,7 @@ pub extern "C" fn morgnet_multi_add_to(key: &[u8], scratch: &mut [u64], table: &
     ensures { multi.swept result scratch.new table.new
         ≡ multi.add_to tree_hash bucket_of key.now scratch.old table.old }
 {
-    multi::calls::add_to(key, scratch, table)
+    number_in(&multi::calls::add_to(key, scratch, table))
 }
 
 // `multi::image::record_place`; part: where the record begins, its length.
@@ -144,9 +150,12 @@ pub extern "C" fn morgnet_multi_add_to(key: &[u8], scratch: &mut [u64], table: &
 pub extern "C" fn morgnet_multi_record(key: &[u8], bucket: u64, part: &mut [u64; 2]) -> u64
     ensures { (result, part.new) ≡ face.place_given (place_of key.now bucket) }
 {
-    let r = multi::image::record_place(key, bucket);
-    *part = [r.start, r.bytes];
-    r.number
+    let place = multi::image::record_place(key, bucket);
+    *part = match place {
+        Ok(p) => [p.start, p.bytes],
+        Err(_) => [0, 0],
+    };
+    number_in(&place)
 }
 
 // ---- the layers below
@@ -157,9 +166,9 @@ pub extern "C" fn morgnet_height(size: u64, height: &mut u64) -> u64
     ensures answer { result ≡ (tree_for size).number }
     ensures height { height.new ≡ (tree_for size).height }
 {
-    let t = words::height(size);
-    *height = t.height;
-    t.number
+    let answer = words::height(size);
+    *height = answer.unwrap_or(0);
+    number_in(&answer)
 }
 
 // `bucket_hash::bucket`.
@@ -168,10 +177,9 @@ pub extern "C" fn morgnet_bucket(key: &[u8; 16], buckets: u64, item: u64, bucket
     ensures answer { result ≡ (bucket_for key.now buckets item).number }
     ensures bucket { bucket.new ≡ (bucket_for key.now buckets item).bucket }
 {
-    let k = *key;
-    let h = bucket_hash::bucket(k, buckets, item);
-    *bucket = h.bucket;
-    h.number
+    let answer = bucket_hash::bucket(*key, buckets, item);
+    *bucket = answer.unwrap_or(0);
+    number_in(&answer)
 }
 
 // `placement::place` under three hash keys.
@@ -187,10 +195,9 @@ pub extern "C" fn morgnet_place(
     ensures { placed (record { number = result; evictions = evictions.new }) scratch.new
         ≡ placing (bucket_of keys.now buckets) domain buckets points.now scratch.old }
 {
-    let k = *keys;
-    let p = placement::place(Hashes::new(k), domain, buckets, points, scratch);
-    *evictions = p.evictions;
-    p.number
+    let answer = placement::place(Hashes::new(*keys), domain, buckets, points, scratch);
+    *evictions = answer.unwrap_or(0);
+    number_in(&answer)
 }
 
 // `cipher::Aes::encrypt_block` under a key.
@@ -198,10 +205,7 @@ pub extern "C" fn morgnet_place(
 pub extern "C" fn morgnet_aes_encrypt(key: &[u8; 16], block: &[u8; 16], out: &mut [u8; 16])
     ensures { out.new ≡ cipher (key_expansion key.now) block.now }
 {
-    let k = *key;
-    let b = *block;
-    let r = Aes::new(k).encrypt_block(b);
-    *out = r;
+    *out = Aes::new(*key).encrypt_block(*block);
 }
 
 // `cipher::Aes::hash_ccr` under a key.
@@ -209,9 +213,8 @@ pub extern "C" fn morgnet_aes_encrypt(key: &[u8; 16], block: &[u8; 16], out: &mu
 pub extern "C" fn morgnet_hash_ccr(key: &[u8; 16], x: &[u64; 2], out: &mut [u64; 2])
     ensures { out.new ≡ face.halves (hash_ccr (key_expansion key.now) (face.word x.now)) }
 {
-    let k = *key;
-    let r = Aes::new(k).hash_ccr(Word { lo: x[0], hi: x[1] });
-    *out = [r.lo, r.hi];
+    let hashed = Aes::new(*key).hash_ccr(Word { lo: x[0], hi: x[1] });
+    *out = [hashed.lo, hashed.hi];
 }
 
 // `cipher::TreeHash::hash`.
@@ -219,6 +222,6 @@ pub extern "C" fn morgnet_hash_ccr(key: &[u8; 16], x: &[u64; 2], out: &mut [u64;
 pub extern "C" fn morgnet_tree_hash(x: &[u64; 2], out: &mut [u64; 2])
     ensures { out.new ≡ face.halves (tree_hash (face.word x.now)) }
 {
-    let r = TreeHash::new().hash(Word { lo: x[0], hi: x[1] });
-    *out = [r.lo, r.hi];
+    let hashed = TreeHash::new().hash(Word { lo: x[0], hi: x[1] });
+    *out = [hashed.lo, hashed.hi];
 }
