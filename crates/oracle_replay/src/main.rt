@@ -4,166 +4,143 @@
 // The format is in oracle/README.md, "The replay lists".
 #![tactic(auto)]
 
-ghost use Rattle.std.specs.Prelude.{◌≤◌, length, IfOk};
-
-use replay::{Account, Record, Tally};
-use std::fs::File;
-use std::io::Read;
+use keys::{Multi, Single};
+use kinds::{Entry, Kind, Tallies};
+use make::Pair;
+use read::Unmade;
+use replay::{Account, Malformed};
+use std::io::Write;
+use std::{fs, io};
 
 mod given;
 mod hashes;
+mod keys;
 mod kinds;
 mod make;
-mod pairs;
 mod place;
 mod read;
 
-// ---- one record
+// The bytes in front of the records: a line that says how the list was made.
+const HEADER: usize = 256;
 
-fn one_record(a: Account, kind: u64, f: &[u8], pair: &[u8]) -> Account {
-    match kind {
-        1 => make::pair(a, false, f),
-        2 => read::cells(a, false, pair, f),
-        3 => read::one(a, false, f),
-        4 => hashes::height(a, f),
-        5 => hashes::tree_hash(a, f),
-        6 => hashes::ccr(a, f),
-        11 => make::pair(a, true, f),
-        12 => read::cells(a, true, pair, f),
-        13 => read::one(a, true, f),
-        14 => place::place(a, f),
-        15 => hashes::bucket(a, f),
-        _ => a.refused(),
-    }
-}
+// The most bytes of a list; what stands behind them is not replayed.
+const LONGEST: usize = 65_536;
 
-// ---- the walk through a list
-
-// Where it has come to, and the last records that made a pair, of single keys and of multi keys.
-#[derive(Clone, Copy)]
-struct Run {
+// Where a replay has come to, and the last pairs that were made, of single keys and of multi keys; of a record that breaks the
+// format, the readings that could not be made.
+#[derive(Drop)]
+struct Replay<'a> {
     account: Account,
-    kinds: [Tally; 16],
-    at: usize,
-    single: Record,
-    multi: Record,
-    done: bool,
+    tallies: Tallies,
+    unmade: Unmade,
+    single: Option<Pair<'a>>,
+    multi: Option<Pair<'a>>,
 }
 
-// The fields of the last pair, of multi keys where a record of this kind reads one, else of single keys.
-fn last_pair(list: &[u8], run: Run, kind: u64) -> &[u8] {
-    let single = run.single;
-    let multi = run.multi;
-    if kind == 12 {
-        return tools::part(list, multi.at, multi.length);
-    }
-    tools::part(list, single.at, single.length)
-}
-
-// The last record of this kind that made a pair, now that r is replayed.
-fn last_made(kind: u64, before: Record, r: Record, f: &[u8]) -> Record {
-    if r.kind != kind {
-        return before;
-    }
-    if pairs::number(kind == 11, f) != 0 {
-        return before;
-    }
-    r
-}
-
-fn ended(run: Run, account: Account) -> Run {
-    let mut end = run;
-    end.account = account;
-    end.done = true;
-    end
-}
-
-// A record is replayed, and the next stands at `next`.
-fn replayed(list: &[u8], run: Run, r: Record, next: usize) -> Run {
-    let a = run.account;
-    let f = tools::part(list, r.at, r.length);
-    let pair = last_pair(list, run, r.kind);
-    let b = one_record(a.next_record(r.kind), r.kind, f, pair);
-    let kinds = run.kinds;
-    let single = run.single;
-    let multi = run.multi;
-    Run {
-        account: b,
-        kinds: kinds::gained(kinds, a, b),
-        at: next,
-        single: last_made(1, single, r, f),
-        multi: last_made(11, multi, r, f),
-        done: b.malformed,
-    }
-}
-
-fn step(list: &[u8], run: Run) -> Run {
-    let a = run.account;
-    if run.done {
-        return run;
-    }
-    let r = replay::record_at(list, run.at);
-    if !r.whole {
-        return ended(run, a.refused());
-    }
-    if r.kind == 0 {
-        return ended(run, a.last(list, r));
-    }
-    replayed(list, run, r, r.at + r.length)
-}
-
-// Nothing is replayed yet.
-fn begun(list: &[u8]) -> Run {
-    let none = replay::record_at(list, list.len());
-    Run {
-        account: Account::new(),
-        kinds: kinds::none(),
-        at: 256,
-        single: none,
-        multi: none,
-        done: false,
-    }
-}
-
-fn replay_list(list: &[u8]) {
-    io::write_all(1, tools::part(list, 0, 256));
-    let mut run = begun(list);
-    let mut turns = list.len() / 16 + 1;
-    while 0 < turns {
-        run = step(list, run);
-        turns -= 1;
-    }
-    let kinds = run.kinds;
-    kinds::print(kinds);
-    let a = run.account;
-    a.close();
-}
-
-// Reads the file until it ends or `space` is full; the answer is how many bytes now stand at the start of `space`.
-fn read_full(file: &mut File, space: &mut [u8]) -> std::io::Result<usize>
-    ensures { IfOk result (λ n. n ≤ length space.new) }
-{
-    let mut done: usize = 0;
-    while done < space.len() {
-        let got = file.read(&mut space[done..])?;
-        if got == 0 {
-            break;
+impl<'a> Replay<'a> {
+    fn new() -> Self {
+        Replay {
+            account: Account::new(),
+            tallies: Tallies::new(),
+            unmade: Unmade::default(),
+            single: None,
+            multi: None,
         }
-        done += got;
     }
-    Ok(done)
+
+    // The calls of one record.
+    fn record(&mut self, kind: Kind, fields: &'a [u8]) -> Result<(), Malformed> {
+        let account = &mut self.account;
+        match kind {
+            Kind::SingleMake => {
+                self.single = make::make_pair::<Single>(account, fields)?.or(self.single);
+                Ok(())
+            }
+            Kind::SingleCells => {
+                read::cells::<Single>(account, &mut self.unmade, self.single, fields)
+            }
+            Kind::SingleReading => read::one::<Single>(account, fields),
+            Kind::Height => hashes::height(account, fields),
+            Kind::TreeHash => hashes::tree_hash(account, fields),
+            Kind::Ccr => hashes::ccr(account, fields),
+            Kind::MultiMake => {
+                self.multi = make::make_pair::<Multi>(account, fields)?.or(self.multi);
+                Ok(())
+            }
+            Kind::MultiCells => {
+                read::cells::<Multi>(account, &mut self.unmade, self.multi, fields)
+            }
+            Kind::MultiReading => read::one::<Multi>(account, fields),
+            Kind::Place => place::place(account, fields),
+            Kind::Bucket => hashes::bucket(account, fields),
+        }
+    }
+
+    // The same, and what the account gains by it is counted for the record's kind.
+    fn counted(&mut self, kind: Kind, fields: &'a [u8]) -> Result<(), Malformed> {
+        let before = self.account;
+        self.account.next_record(kind as u64);
+        let replayed = self.record(kind, fields);
+        self.tallies.gained(before, self.account);
+        replayed
+    }
+
+    // All records, to the last, or to the first that breaks the format.
+    fn records(&mut self, list: &'a [u8]) -> Result<(), Malformed> {
+        let mut at = HEADER;
+        while let Some(r) = replay::record_at(list, at) {
+            match Entry::from(r.kind) {
+                Entry::Last => return self.account.last(list, r),
+                Entry::Calls(kind) => self.counted(kind, r.fields)?,
+                Entry::Unknown => {
+                    self.account.next_record(r.kind);
+                    return Err(self.account.malformed());
+                }
+            }
+            at = r.end;
+        }
+        Err(self.account.malformed())
+    }
 }
 
-fn replay_file(rt: &HostRuntime, path: &str) -> std::io::Result<()> {
-    let mut file = File::open(rt, path)?;
-    let mut space = io::large_buffer();
-    let n = read_full(&mut file, &mut space)?;
-    replay_list(&space[..n]);
+// So many lines that say where the list breaks its format.
+fn print_malformed(rt: &impl Print, ended: Result<(), Malformed>, lines: u64) -> io::Result<()> {
+    if let Err(malformed) = ended {
+        for _ in 0..lines {
+            println!(rt; "{malformed}")?;
+        }
+    }
     Ok(())
 }
 
+// What was found, in the order in which it was: a record that breaks the format has a line for each reading that could not be made,
+// or one line.
+fn replay_list(rt: &impl Print, list: &[u8]) -> io::Result<()> {
+    io::writer(rt).write_all(list.get(..HEADER).unwrap_or(b""))?;
+    let mut replay = Replay::new();
+    let ended = replay.records(list);
+    let account = replay.account;
+    let (before, behind) = replay.unmade.lines();
+    print_malformed(rt, ended, before)?;
+    if let Some(disagreement) = account.first {
+        println!(rt; "{disagreement}")?;
+    }
+    print_malformed(rt, ended, behind)?;
+    replay.tallies.print(rt)?;
+    if ended.is_ok() {
+        let total = account.total;
+        println!(rt; "{total}")?;
+    }
+    Ok(())
+}
+
+fn replay_file(rt: &HostRuntime, path: &str) -> io::Result<()> {
+    let list = fs::read(rt, path)?;
+    replay_list(rt, &list[..list.len().min(LONGEST)])
+}
+
 // A list that cannot be read does not keep the other from being replayed; the first failure is answered.
-fn main(rt: HostRuntime) -> std::io::Result<()> {
+fn main(rt: HostRuntime) -> io::Result<()> {
     let single = replay_file(&rt, "single_replay.list");
     let multi = replay_file(&rt, "multi_replay.list");
     single.and(multi)

@@ -1,196 +1,160 @@
-// Kinds 1 and 11: a pair is made, of single keys or of multi keys. A single key takes no points, values and scratch.
-ghost use Rattle.std.specs.Prelude.{◌≤◌};
+// Kinds 1 and 11: a pair is made, of single keys or of multi keys.
+ghost use Rattle.std.specs.Prelude.{◌+◌, ◌≤◌, IfSome};
+ghost use Rattle.oracle_replay.specs.declared.make.TheConstants.{POINTS, VALUES, WORDS, SCRATCH, KEY};
 
-use crate::{given, pairs};
-use multi::calls::Generated;
-use replay::Account;
+use crate::keys::Keys;
+use multi::calls::Made;
+use replay::{Account, BYTE, Malformed, What};
+use words::refusals::number_in;
 
-// The most that a record may lend: points, values, random words, elements of scratch.
-const POINTS: u64 = 16;
+// The most that a record may lend: points, values, random words, elements of scratch, bytes of a key.
+pub(crate) const POINTS: usize = 16;
 
-const VALUES: u64 = 16;
+pub(crate) const VALUES: usize = 16;
 
-const WORDS: u64 = 64;
+pub(crate) const WORDS: usize = 64;
 
-const SCRATCH: u64 = 64;
+pub(crate) const SCRATCH: usize = 64;
 
-// How much of each is lent to the maker.
+pub(crate) const KEY: usize = 1408;
+
+// How much of each a record lends to the maker.
 #[derive(Clone, Copy)]
-struct Lent {
-    points: u64,
-    values: u64,
-    words: u64,
-    scratch: u64,
-    key0: u64,
-    key1: u64,
+pub(crate) struct Lent {
+    pub(crate) points: usize,
+    pub(crate) values: usize,
+    pub(crate) words: usize,
+    pub(crate) scratch: usize,
+    pub(crate) key0: usize,
+    pub(crate) key1: usize,
+    ghost within: { (points ≤ POINTS) × (values ≤ VALUES) × (words ≤ WORDS) × (scratch ≤ SCRATCH) × (key0 ≤ KEY) × (key1 ≤ KEY) },
 }
 
-// ---- what a record lends
-
-fn lent_by(multi: bool, f: &[u8]) -> Lent {
-    if multi {
-        return Lent {
-            points: replay::field(f, 2),
-            values: replay::field(f, 3),
-            words: replay::field(f, 4),
-            scratch: replay::field(f, 5),
-            key0: replay::field(f, 7),
-            key1: replay::field(f, 8),
-        };
-    }
-    Lent {
-        points: 0,
-        values: 0,
-        words: replay::field(f, 8),
-        scratch: 0,
-        key0: replay::field(f, 3),
-        key1: replay::field(f, 4),
-    }
+// What the maker is lent.
+#[derive(Drop)]
+pub(crate) struct Slices<'a> {
+    pub(crate) points: &'a [u64],
+    pub(crate) values: &'a [u64],
+    pub(crate) words: &'a [u64],
+    pub(crate) scratch: &'a mut [u64],
+    pub(crate) key0: &'a mut [u8],
+    pub(crate) key1: &'a mut [u8],
 }
 
-// Whether scratch and keys can be lent.
-fn fits(l: Lent) -> bool {
-    if SCRATCH < l.scratch {
-        return false;
-    }
-    if (pairs::KEY as u64) < l.key0 {
-        return false;
-    }
-    l.key1 <= pairs::KEY as u64
-}
-
-// The bytes in front of what the maker is given.
-fn given_at(multi: bool) -> usize
-    ensures { result ≤ 152 }
+// A number of a record as a length; none where it is above the limit.
+pub(crate) fn at_most(limit: usize, n: u64) -> Option<usize>
+    ensures { IfSome result (λ m. m ≤ limit) }
 {
-    if multi {
-        return 152;
-    }
-    72
-}
-
-// How many elements of scratch are zero afterwards.
-fn zeroed(multi: bool, f: &[u8]) -> usize {
-    if multi {
-        return replay::field(f, 6) as usize;
-    }
-    0
-}
-
-// ---- the call
-
-// The maker of multi keys, or of single ones.
-fn generate(
-    multi: bool,
-    f: &[u8],
-    points: &[u64],
-    values: &[u64],
-    words: &[u64],
-    scratch: &mut [u64],
-    key0: &mut [u8],
-    key1: &mut [u8],
-) -> Generated {
-    let domain = replay::field(f, 0);
-    let second = replay::field(f, 1);
-    if multi {
-        let keys = given::keys(tools::part(f, 104, 48));
-        return multi::calls::generate_keys(
-            domain, second, keys, points, values, words, scratch, key0, key1,
-        );
-    }
-    let g = single::calls::generate_keys(domain, second, replay::field(f, 2), words, key0, key1);
-    Generated {
-        number: g.number,
-        length: g.length,
-        words: g.words,
-        evictions: 0,
+    if n <= limit as u64 {
+        Some(n as usize)
+    } else {
+        None
     }
 }
 
-// The call on what stands among the fields: points, values and words, one behind the other.
-fn call(
-    multi: bool,
-    f: &[u8],
-    l: Lent,
-    scratch: &mut [u64],
-    key0: &mut [u8],
-    key1: &mut [u8],
-) -> Generated
-    requires { (l.points ≤ 16) × (l.values ≤ 16) × (l.words ≤ 64) }
-{
-    let p = l.points as usize;
-    let v = l.values as usize;
-    let w = l.words as usize;
-    let at = given_at(multi);
-    let points = given::elements(f, at, p);
-    let values = given::elements(f, at + 8 * p, v);
-    let words = given::elements(f, at + 8 * p + 8 * v, w);
-    generate(
-        multi,
-        f,
-        tools::first(&points, p),
-        tools::first(&values, v),
-        tools::first(&words, w),
-        scratch,
-        key0,
-        key1,
-    )
+// What the maker answers on refusal.
+// Kept: the new form is no plainer (its three values are compared on refusal too, as zeros: an Option would be opened three times).
+const NOTHING: Made = Made {
+    length: 0,
+    words: 0,
+    evictions: 0,
+};
+
+// What a record wants of the maker: the number, the values that it answers, and how many elements of scratch are zero afterwards.
+// Kept: what may not change (the format of the lists: a record has a number and three values, zeros on refusal, each compared).
+#[derive(Clone, Copy)]
+pub(crate) struct Wanted {
+    pub(crate) number: u64,
+    pub(crate) made: Made,
+    pub(crate) zeroed: u64,
 }
 
-// ---- what it answers and leaves
-
-fn answered(a: Account, multi: bool, f: &[u8], g: Generated) -> Account {
-    let at = pairs::answers(multi);
-    let b = a.answered(replay::field(f, at), g.number);
-    let b = b.value(replay::IMAGE_LENGTH, replay::field(f, at + 1), g.length);
-    b.value(replay::WORDS_USED, replay::field(f, at + 2), g.words)
+impl Wanted {
+    // The bytes of an image in the record; none on refusal.
+    fn image_bytes(self) -> usize
+        ensures { result ≤ KEY }
+    {
+        if self.number == 0 {
+            at_most(KEY, self.made.length).unwrap_or(0)
+        } else {
+            0
+        }
+    }
 }
 
-// What a multi key's maker answers besides.
-fn evicted(a: Account, multi: bool, f: &[u8], evictions: u64) -> Account {
-    if multi {
-        return a.value(replay::EVICTIONS, replay::field(f, 12), evictions);
-    }
-    a
+// The images of party 0 and of party 1.
+#[derive(Clone, Copy)]
+pub(crate) struct Pair<'a> {
+    pub(crate) key0: &'a [u8],
+    pub(crate) key1: &'a [u8],
 }
 
-fn made(a: Account, multi: bool, f: &[u8], l: Lent) -> Account
-    requires { (l.points ≤ 16) × (l.values ≤ 16) × (l.words ≤ 64) }
-{
-    let mut scratch = [replay::SCRATCH; 64];
-    let mut key0 = [replay::BYTE; 1408];
-    let mut key1 = [replay::BYTE; 1408];
-    let g = call(
-        multi,
-        f,
-        l,
-        tools::lent_cells(&mut scratch, l.scratch as usize),
-        tools::lent_bytes(&mut key0, l.key0 as usize),
-        tools::lent_bytes(&mut key1, l.key1 as usize),
-    );
-    let b = answered(a, multi, f, g);
-    let b = evicted(b, multi, f, g.evictions);
-    let b = b.zeroed(zeroed(multi, f), &scratch);
-    pairs::compared(b, multi, f, &key0, &key1)
+// The points, the values and the random words among the fields, and the images behind them.
+#[derive(Clone, Copy)]
+struct Given<'a> {
+    points: &'a [u8],
+    values: &'a [u8],
+    words: &'a [u8],
+    pair: Pair<'a>,
 }
 
-pub(crate) fn pair(a: Account, multi: bool, f: &[u8]) -> Account {
-    let l = lent_by(multi, f);
-    if !fits(l) {
-        return a.refused();
+impl<'a> Given<'a> {
+    // What stands behind the head of a record; none where the record is shorter or longer.
+    fn behind(fields: &'a [u8], head: usize, lent: Lent, image: usize) -> Option<Self>
+        requires { image ≤ KEY }
+    {
+        let rest = fields.get(head..)?;
+        if rest.len() != 8 * (lent.points + lent.values + lent.words) + 2 * image {
+            return None;
+        }
+        let (points, rest) = rest.split_at(8 * lent.points);
+        let (values, rest) = rest.split_at(8 * lent.values);
+        let (words, images) = rest.split_at(8 * lent.words);
+        let (key0, key1) = images.split_at(image);
+        Some(Given {
+            points,
+            values,
+            words,
+            pair: Pair { key0, key1 },
+        })
     }
-    if POINTS < l.points {
-        return a.refused();
-    }
-    if VALUES < l.values {
-        return a.refused();
-    }
-    if WORDS < l.words {
-        return a.refused();
-    }
-    let n = (l.points + l.values + l.words) as usize;
-    if f.len() != given_at(multi) + 8 * n + 2 * pairs::image_bytes(multi, f) {
-        return a.refused();
-    }
-    made(a, multi, f, l)
+}
+
+// The pair that the record has, where it wants one to be made.
+pub(crate) fn make_pair<'a, K: Keys>(
+    account: &mut Account,
+    fields: &'a [u8],
+) -> Result<Option<Pair<'a>>, Malformed> {
+    let wanted = K::wanted(fields);
+    let lent = K::lent(fields).ok_or(account.malformed())?;
+    let given = Given::behind(fields, K::HEAD, lent, wanted.image_bytes());
+    let given = given.ok_or(account.malformed())?;
+    let pair = given.pair;
+    let mut points = [0; POINTS];
+    let mut values = [0; VALUES];
+    let mut words = [0; WORDS];
+    replay::fill(&mut points, given.points);
+    replay::fill(&mut values, given.values);
+    replay::fill(&mut words, given.words);
+    let mut scratch = [replay::SCRATCH; SCRATCH];
+    let mut key0 = [BYTE; KEY];
+    let mut key1 = [BYTE; KEY];
+    let slices = Slices {
+        points: &points[..lent.points],
+        values: &values[..lent.values],
+        words: &words[..lent.words],
+        scratch: &mut scratch[..lent.scratch],
+        key0: &mut key0[..lent.key0],
+        key1: &mut key1[..lent.key1],
+    };
+    let answer = K::generate(fields, slices);
+    let made = answer.unwrap_or(NOTHING);
+    account.answered(wanted.number, number_in(&answer));
+    account.value(What::ImageLength, wanted.made.length, made.length);
+    account.value(What::WordsUsed, wanted.made.words, made.words);
+    account.value(What::Evictions, wanted.made.evictions, made.evictions);
+    account.zeroed(wanted.zeroed as usize, &scratch);
+    account.bytes(What::Key0, pair.key0, &key0);
+    account.bytes(What::Key1, pair.key1, &key1);
+    Ok((wanted.number == 0).then_some(pair))
 }

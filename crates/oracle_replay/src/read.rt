@@ -1,9 +1,8 @@
 // Kinds 2, 3, 12 and 13: an image is read, of a single key or of a multi key.
-use crate::pairs;
-use multi::calls::Share;
-use multi::image;
-use replay::Account;
-use words::sums;
+use crate::keys::Keys;
+use crate::make::{Pair, at_most};
+use replay::{Account, CELL, Malformed, What, field};
+use words::refusals::{Refusal, number_in};
 
 // The most elements of scratch, of one cell's scratch, and of an output or a table that a record may lend.
 const SCRATCH: usize = 320;
@@ -12,240 +11,228 @@ const CELL_SCRATCH: usize = 32;
 
 const OUT: usize = 128;
 
-// What is lent to a call, and what is wanted of it.
+// The bytes in front of the shares, or of the image.
+const HEAD: usize = 72;
+
+// The most bytes of an image.
+const IMAGE: usize = 4096;
+
+// How an image is read, by the number that a record has for it: one cell, all cells to an output or to a table, a bucket's record.
+#[derive(Clone, Copy, Debug, PartialEq, Eq)]
+enum How {
+    OneCell = 1,
+    Output = 2,
+    Table = 4,
+    Record = 8,
+}
+
+// A number that stands for no way to read an image.
+#[derive(Clone, Copy, Debug, PartialEq, Eq)]
+struct UnknownHow;
+
+impl TryFrom<u64> for How {
+    type Error = UnknownHow;
+
+    fn try_from(number: u64) -> Result<Self, UnknownHow> {
+        match number {
+            1 => Ok(How::OneCell),
+            2 => Ok(How::Output),
+            4 => Ok(How::Table),
+            8 => Ok(How::Record),
+            _ => Err(UnknownHow),
+        }
+    }
+}
+
+impl How {
+    // Whether a sum of such numbers has this one.
+    // Kept: what may not change (the format of the lists: a record has the sum, of at most three ways, in one field).
+    fn is_in(self, sum: u64) -> bool {
+        sum & self as u64 != 0
+    }
+}
+
+// A reading of an image: how much scratch and output or table is lent, and what is wanted: the number, the shares of all cells, and
+// how many elements of scratch are zero afterwards.
 #[derive(Clone, Copy)]
-struct Lent {
-    number: u64,
+struct Reading<'a> {
+    key: &'a [u8],
     scratch: u64,
+    out: u64,
+    number: u64,
+    shares: &'a [u8],
     zeroed: u64,
-    out: u64,
 }
 
-// ---- one cell
-
-// The call; a single key takes no scratch.
-fn cell_call(multi: bool, key: &[u8], index: u64, scratch: &mut [u64]) -> Share {
-    if multi {
-        return multi::calls::evaluate_at(key, index, scratch);
+impl Reading<'_> {
+    // Of one cell.
+    fn cell<K: Keys>(
+        self,
+        account: &mut Account,
+        index: u64,
+        wanted: u64,
+    ) -> Result<(), Malformed> {
+        let lent = at_most(CELL_SCRATCH, self.scratch).ok_or(account.malformed())?;
+        let mut scratch = [replay::SCRATCH; CELL_SCRATCH];
+        let share = K::evaluate_at(self.key, index, &mut scratch[..lent]);
+        account.answered(self.number, number_in(&share));
+        account.value(What::Share, wanted, share.unwrap_or(0));
+        account.zeroed(self.zeroed as usize, &scratch);
+        Ok(())
     }
-    let s = single::calls::evaluate_at(key, index);
-    Share {
-        number: s.number,
-        share: s.share,
+
+    // Of all cells, to an output: each cell is its share afterwards.
+    fn output<K: Keys>(self, account: &mut Account) -> Result<(), Malformed> {
+        self.all(
+            account,
+            What::Output,
+            0,
+            |key: &[u8], scratch: &mut [u64], out: &mut [u64]| {
+                K::evaluate_domain(key, scratch, out)
+            },
+        )
+    }
+
+    // Of all cells, added to a table: each cell is what it was plus its share afterwards.
+    fn table<K: Keys>(self, account: &mut Account) -> Result<(), Malformed> {
+        self.all(
+            account,
+            What::Table,
+            CELL,
+            |key: &[u8], scratch: &mut [u64], table: &mut [u64]| { K::add_to(key, scratch, table) },
+        )
+    }
+
+    // Of all cells, by that call: each cell is `base` plus its share afterwards.
+    fn all<F: Fn(&[u8], &mut [u64], &mut [u64]) -> Result<(), Refusal>>(
+        self,
+        account: &mut Account,
+        what: What,
+        base: u64,
+        call: F,
+    ) -> Result<(), Malformed>
+        requires { F.IsAlwaysCallable call }
+    {
+        let lent = at_most(SCRATCH, self.scratch).ok_or(account.malformed())?;
+        let room = at_most(OUT, self.out).ok_or(account.malformed())?;
+        let mut scratch = [replay::SCRATCH; SCRATCH];
+        let mut out = [CELL; OUT];
+        let answer = call(self.key, &mut scratch[..lent], &mut out[..room]);
+        account.answered(self.number, number_in(&answer));
+        account.zeroed(self.zeroed as usize, &scratch);
+        account.cells(what, self.shares, self.shares.len() / 8, base, &out);
+        Ok(())
     }
 }
 
-fn at(a: Account, multi: bool, key: &[u8], index: u64, l: Lent, share: u64) -> Account {
-    let n = l.scratch as usize;
-    if CELL_SCRATCH < n {
-        return a.refused();
-    }
-    let mut scratch = [replay::SCRATCH; 32];
-    let s = cell_call(multi, key, index, tools::lent_cells(&mut scratch, n));
-    let b = a.answered(l.number, s.number);
-    let b = b.value(replay::SHARE, share, s.share);
-    b.zeroed(l.zeroed as usize, &scratch)
+// How many readings of a record could not be made, before the first disagreement and behind it.
+#[derive(Clone, Copy, Default)]
+pub(crate) struct Unmade {
+    before: u64,
+    behind: u64,
 }
 
-// The cells from `first` on, each by itself, as many as there are shares.
-fn each(a: Account, multi: bool, key: &[u8], first: u64, l: Lent, shares: &[u8]) -> Account {
-    let mut b = a;
-    let n = shares.len() / 8;
-    let mut i: usize = 0;
-    while i < n {
-        let share = replay::field(shares, i);
-        b = at(b, multi, key, sums::plus(first, i as u64), l, share);
-        i += 1;
+impl Unmade {
+    // What a reading came to, and if it could not be made, one more.
+    fn noted(&mut self, read: Result<(), Malformed>, account: &Account) -> Result<(), Malformed> {
+        if read.is_err() && account.first.is_none() {
+            self.before = self.before.saturating_add(1);
+        } else if read.is_err() {
+            self.behind = self.behind.saturating_add(1);
+        }
+        read
     }
-    b
+
+    // The lines before the first disagreement and behind it: one behind it where none was noted.
+    pub(crate) fn lines(self) -> (u64, u64) {
+        if self.before == 0 && self.behind == 0 {
+            return (0, 1);
+        }
+        (self.before, self.behind)
+    }
 }
 
-// ---- all cells
-
-// Of a multi key: adding to a table, or writing an output.
-fn multi_call(adding: bool, key: &[u8], scratch: &mut [u64], out: &mut [u64]) -> u64 {
-    if adding {
-        return multi::calls::add_to(key, scratch, out);
+// Kinds 2 and 12: cells of an image of the last pair, each by itself, all to an output, all to a table.
+pub(crate) fn cells<K: Keys>(
+    account: &mut Account,
+    unmade: &mut Unmade,
+    pair: Option<Pair<'_>>,
+    fields: &[u8],
+) -> Result<(), Malformed> {
+    let pair = pair.ok_or(account.malformed())?;
+    let key = if field(fields, 0) == 1 {
+        pair.key1
+    } else {
+        pair.key0
+    };
+    let how = field(fields, 1);
+    let first = field(fields, 2);
+    let count = field(fields, 3);
+    let cells = at_most(OUT, count).ok_or(account.malformed())?;
+    if key.is_empty() {
+        return Err(account.malformed());
     }
-    multi::calls::evaluate_domain(key, scratch, out)
-}
-
-// Of a single key.
-fn single_call(adding: bool, key: &[u8], scratch: &mut [u64], out: &mut [u64]) -> u64 {
-    if adding {
-        return single::calls::add_to(key, scratch, out);
-    }
-    single::calls::evaluate_domain(key, scratch, out)
-}
-
-fn call(multi: bool, adding: bool, key: &[u8], scratch: &mut [u64], out: &mut [u64]) -> u64 {
-    if multi {
-        return multi_call(adding, key, scratch, out);
-    }
-    single_call(adding, key, scratch, out)
-}
-
-// The table after adding, or the output.
-fn left(a: Account, adding: bool, shares: &[u8], out: &[u64]) -> Account {
-    if adding {
-        return a.cells(replay::TABLE, shares, shares.len() / 8, replay::CELL, out);
-    }
-    a.cells(replay::OUTPUT, shares, shares.len() / 8, 0, out)
-}
-
-fn all(a: Account, multi: bool, adding: bool, key: &[u8], l: Lent, shares: &[u8]) -> Account {
-    let n = l.scratch as usize;
-    let m = l.out as usize;
-    if SCRATCH < n {
-        return a.refused();
-    }
-    if OUT < m {
-        return a.refused();
-    }
-    let mut scratch = [replay::SCRATCH; 320];
-    let mut out = [replay::CELL; 128];
-    let number = call(
-        multi,
-        adding,
+    account.of_length(fields, HEAD + 8 * cells)?;
+    let shares = &fields[HEAD..];
+    let one_cell = Reading {
         key,
-        tools::lent_cells(&mut scratch, n),
-        tools::lent_cells(&mut out, m),
-    );
-    let b = a.answered(l.number, number);
-    let b = b.zeroed(l.zeroed as usize, &scratch);
-    left(b, adding, shares, &out)
-}
-
-// ---- a bucket's record
-
-// Where it begins and how long it is.
-fn record_place(a: Account, key: &[u8], bucket: u64, f: &[u8]) -> Account {
-    let p = image::record_place(key, bucket);
-    let b = a.value(replay::PLACE_NUMBER, replay::field(f, 4), p.number);
-    let b = b.value(replay::PLACE_START, replay::field(f, 5), p.start);
-    b.value(replay::PLACE_LENGTH, replay::field(f, 6), p.bytes)
-}
-
-// The same, and the part itself; a single key has no buckets.
-fn record(a: Account, multi: bool, key: &[u8], bucket: u64, f: &[u8]) -> Account {
-    if !multi {
-        return a.refused();
-    }
-    let start = replay::field(f, 5);
-    let length = replay::field(f, 6);
-    let part = image::record(key, bucket);
-    let b = a.answered(replay::field(f, 4), image::record_number(key, bucket));
-    let b = record_place(b, key, bucket, f);
-    let b = b.value(replay::RECORD_LENGTH, length, part.len() as u64);
-    b.bytes(
-        replay::RECORD,
-        tools::part(key, start as usize, length as usize),
-        part,
-    )
-}
-
-// ---- kinds 2 and 12: cells of an image of the last pair
-
-// What is lent for one cell.
-fn one_cell(f: &[u8]) -> Lent {
-    Lent {
-        number: 0,
-        scratch: replay::field(f, 4),
-        zeroed: replay::field(f, 5),
+        scratch: field(fields, 4),
         out: 0,
-    }
-}
-
-// What is lent for all cells, with an output or a table of that length.
-fn all_cells(f: &[u8], out: u64) -> Lent {
-    Lent {
         number: 0,
-        scratch: replay::field(f, 6),
-        zeroed: replay::field(f, 7),
-        out,
+        shares,
+        zeroed: field(fields, 5),
+    };
+    let to_output = Reading {
+        key,
+        scratch: field(fields, 6),
+        out: field(fields, 8),
+        number: 0,
+        shares,
+        zeroed: field(fields, 7),
+    };
+    let to_table = Reading {
+        out: count,
+        ..to_output
+    };
+    // A reading that cannot be made keeps no other from being made.
+    let mut made = Ok(());
+    if How::OneCell.is_in(how) {
+        for i in 0..count {
+            let wanted = field(shares, i as usize);
+            let read = one_cell.cell::<K>(account, first.wrapping_add(i), wanted);
+            made = made.and(unmade.noted(read, account));
+        }
     }
+    if How::Output.is_in(how) {
+        let read = to_output.output::<K>(account);
+        made = made.and(unmade.noted(read, account));
+    }
+    if How::Table.is_in(how) {
+        let read = to_table.table::<K>(account);
+        made = made.and(unmade.noted(read, account));
+    }
+    made
 }
 
-// Each cell by itself, where `how` says so.
-fn one_by_one(a: Account, multi: bool, key: &[u8], f: &[u8], shares: &[u8]) -> Account {
-    if words::bit(0, replay::field(f, 1)) {
-        return each(a, multi, key, replay::field(f, 2), one_cell(f), shares);
+// Kinds 3 and 13: one reading of one image.
+pub(crate) fn one<K: Keys>(account: &mut Account, fields: &[u8]) -> Result<(), Malformed> {
+    let n = at_most(IMAGE, field(fields, 8)).ok_or(account.malformed())?;
+    account.of_length(fields, HEAD + n.div_ceil(8) * 8)?;
+    let key = &fields[HEAD..HEAD + n];
+    let index = field(fields, 1);
+    let reading = Reading {
+        key,
+        scratch: field(fields, 2),
+        out: field(fields, 3),
+        number: field(fields, 4),
+        shares: b"",
+        zeroed: field(fields, 7),
+    };
+    match How::try_from(field(fields, 0)) {
+        Ok(How::OneCell) => reading.cell::<K>(account, index, field(fields, 5)),
+        Ok(How::Output) => reading.output::<K>(account),
+        Ok(How::Table) => reading.table::<K>(account),
+        Ok(How::Record) => K::record(account, key, index, fields),
+        Err(_) => Err(account.malformed()),
     }
-    a
-}
-
-// All cells, where that bit of `how` says so: 1 is an output, 2 adding to a table, of that length.
-fn all_at_once(
-    a: Account,
-    multi: bool,
-    bit: u64,
-    out: u64,
-    key: &[u8],
-    f: &[u8],
-    shares: &[u8],
-) -> Account {
-    if words::bit(bit, replay::field(f, 1)) {
-        return all(a, multi, bit == 2, key, all_cells(f, out), shares);
-    }
-    a
-}
-
-pub(crate) fn cells(a: Account, multi: bool, pair: &[u8], f: &[u8]) -> Account {
-    let count = replay::field(f, 3);
-    if (OUT as u64) < count {
-        return a.refused();
-    }
-    let n = count as usize;
-    if f.len() != 72 + 8 * n {
-        return a.refused();
-    }
-    let key = pairs::image(multi, pair, replay::field(f, 0) == 1);
-    if key.len() == 0 {
-        return a.refused();
-    }
-    let shares = tools::part(f, 72, 8 * n);
-    let b = one_by_one(a, multi, key, f, shares);
-    let b = all_at_once(b, multi, 1, replay::field(f, 8), key, f, shares);
-    all_at_once(b, multi, 2, count, key, f, shares)
-}
-
-// ---- kinds 3 and 13: one reading of one image
-
-// The bytes of nine fields, and behind them of those that n bytes are packed into.
-fn packed(n: u64) -> usize {
-    if 4096 < n {
-        return 0;
-    }
-    72 + (n as usize + 7) / 8 * 8
-}
-
-fn reading(f: &[u8]) -> Lent {
-    Lent {
-        number: replay::field(f, 4),
-        scratch: replay::field(f, 2),
-        zeroed: replay::field(f, 7),
-        out: replay::field(f, 3),
-    }
-}
-
-// The reading that `how` says.
-fn read(a: Account, multi: bool, how: u64, key: &[u8], f: &[u8]) -> Account {
-    let index = replay::field(f, 1);
-    let none = tools::part(f, 0, 0);
-    match how {
-        1 => at(a, multi, key, index, reading(f), replay::field(f, 5)),
-        2 => all(a, multi, false, key, reading(f), none),
-        4 => all(a, multi, true, key, reading(f), none),
-        8 => record(a, multi, key, index, f),
-        _ => a.refused(),
-    }
-}
-
-pub(crate) fn one(a: Account, multi: bool, f: &[u8]) -> Account {
-    let n = replay::field(f, 8);
-    if f.len() != packed(n) {
-        return a.refused();
-    }
-    let how = replay::field(f, 0);
-    read(a, multi, how, tools::part(f, 72, n as usize), f)
 }

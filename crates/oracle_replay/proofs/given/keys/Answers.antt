@@ -1,8 +1,0 @@
--- `oracle_replay::given::keys` is safe and ends. The measure is what is left. Assumes nothing.
-use Rattle.oracle_replay.proofs.given.keys.Goals as goal
-
-pub loop-i-init : goal.loop-i-init
-loop-i-init c = tt
-
-pub loop-i-preserved : goal.loop-i-preserved
-loop-i-preserved c = tt

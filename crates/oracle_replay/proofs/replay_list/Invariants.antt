@@ -1,8 +1,0 @@
--- `oracle_replay::replay_list` is safe and ends. The measure is the number of turns that are left. Assumes nothing.
-use Rattle.oracle_replay.proofs.replay_list.Given as goal
-
-abbrev pub invariant-loop-turns : goal.invariant-loop-turns
-invariant-loop-turns l = Unit {0}
-
-abbrev pub decreases-loop-turns : goal.decreases-loop-turns
-decreases-loop-turns l = l.turns
