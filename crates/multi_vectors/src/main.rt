@@ -8,8 +8,12 @@
 mod makers;
 mod readers;
 
-fn main() {
-    makers::known_sums();
-    makers::all();
-    readers::all();
+use std::io;
+
+fn main(rt: HostRuntime) -> io::Result<()> {
+    makers::known_sums(&rt)?;
+    makers::given(&rt)?;
+    makers::lent_lengths(&rt)?;
+    makers::order(&rt)?;
+    readers::all(&rt)
 }

@@ -1,271 +1,252 @@
 // Making at every limit: refusals 1 to 8, each with the case beside it that is taken, what they leave in the lent slices, and
 // their order. Before each call the scratch holds nines and the key buffers hold sevens.
 use multi::calls;
-use tools::{elements, fill, fold_bytes, hex, keys, lent_bytes, lent_cells, number, zeros};
+use std::{fmt, io};
+use tools::{fill, first, fold, keys, lent, zeros};
+use words::refusals::{Refusal, number_in};
 
 // ---- one call
 
-// A list of at most three numbers.
+// What is given, the hash keys as those of a seed, zeros of 0; and how many elements of words and scratch and how many bytes of
+// either buffer are lent: at most 16, 16, 320 and 320.
 #[derive(Clone, Copy)]
-struct Few {
-    n: usize,
-    list: [u64; 3],
-}
-
-fn none() -> Few {
-    Few {
-        n: 0,
-        list: [0, 0, 0],
-    }
-}
-
-fn one(a: u64) -> Few {
-    Few {
-        n: 1,
-        list: [a, 0, 0],
-    }
-}
-
-fn two(a: u64, b: u64) -> Few {
-    Few {
-        n: 2,
-        list: [a, b, 0],
-    }
-}
-
-fn three(a: u64, b: u64, c: u64) -> Few {
-    Few {
-        n: 3,
-        list: [a, b, c],
-    }
-}
-
-// The first n of the values 10, 20, 30.
-fn some(n: usize) -> Few {
-    Few {
-        n,
-        list: [10, 20, 30],
-    }
-}
-
-// What is given; the hash keys are those of a seed, zeros of 0.
-#[derive(Clone, Copy)]
-struct Posted {
+struct Case {
+    name: &'static str,
     domain: u64,
     buckets: u64,
     seed: u64,
-    points: Few,
-    values: Few,
+    points: &'static [u64],
+    values: &'static [u64],
+    words: usize,
+    scratch: usize,
+    rooms: [usize; 2],
 }
 
-fn posting(domain: u64, buckets: u64, seed: u64, points: Few, values: Few) -> Posted {
-    Posted {
-        domain,
-        buckets,
-        seed,
-        points,
-        values,
+// The posting 10 at cell 1, 20 at cell 4 among five cells in two buckets, with more than enough of everything.
+const GIVEN: Case = Case {
+    name: "",
+    domain: 5,
+    buckets: 2,
+    seed: 7,
+    points: &[1, 4],
+    values: &[10, 20],
+    words: 8,
+    scratch: 12,
+    rooms: [300, 300],
+};
+
+// What making answered: 0 and what it made, or a refusal's number and zeros.
+// Kept: the new form is no plainer (one type with that of single_vectors: the two `Made` differ, and so do the lines).
+#[derive(Clone, Copy)]
+struct Told(Result<calls::Made, Refusal>);
+
+impl fmt::Display for Told {
+    fn fmt<W: fmt::Write>(&self, f: &mut fmt::Formatter<W>) -> fmt::Result {
+        let (length, words, evictions) = self.0.map_or(
+            (0, 0, 0),
+            |made| (made.length, made.words, made.evictions),
+        );
+        write!(f, "number {}, length {length}", number_in(&self.0))?;
+        write!(f, ", words {words}, evictions {evictions}")
     }
 }
 
-// What making answered.
-fn made(name: &[u8], r: calls::Generated) {
-    io::write_all(1, b"make ");
-    io::write_all(1, name);
-    number(b"  number ", r.number);
-    number(b", length ", r.length);
-    number(b", words ", r.words);
-    number(b", evictions ", r.evictions);
-}
-
-// What it left: how many elements of scratch are 0, and a fold of each buffer.
-fn left(scratch: &[u64], key0: &[u8], key1: &[u8]) {
-    number(b"; zeros ", zeros(scratch));
-    number(b" of ", scratch.len() as u64);
-    hex(b"; buffers ", fold_bytes(key0));
-    hex(b" ", fold_bytes(key1));
-    io::write_all(1, b"\n");
-}
-
-fn make_in(
-    name: &[u8],
-    p: Posted,
-    words: &[u64],
-    scratch: &mut [u64],
-    key0: &mut [u8],
-    key1: &mut [u8],
-) {
-    let points = p.points.list;
-    let values = p.values.list;
-    let r = calls::generate_keys(
-        p.domain,
-        p.buckets,
-        keys(p.seed),
-        elements(&points, 0, p.points.n),
-        elements(&values, 0, p.values.n),
-        words,
+// What making answered, how many elements of scratch are 0 afterwards, and a fold of either buffer.
+fn make(rt: &impl Print, case: &Case) -> io::Result<()> {
+    let mut words = [0; 16];
+    fill(&mut words, 5);
+    let mut nines = [9; 16];
+    let mut sevens0 = [7; 320];
+    let mut sevens1 = [7; 320];
+    let scratch = lent(&mut nines, case.scratch);
+    let key0 = lent(&mut sevens0, case.rooms[0]);
+    let key1 = lent(&mut sevens1, case.rooms[1]);
+    let made = calls::generate_keys(
+        case.domain,
+        case.buckets,
+        keys(case.seed),
+        case.points,
+        case.values,
+        first(&words, case.words),
         scratch,
         key0,
         key1,
     );
-    made(name, r);
-    left(scratch, key0, key1);
-}
-
-// A call with so many elements of words and scratch and so many bytes in either buffer: at most 16, 16, 320 and 320.
-fn make(name: &[u8], p: Posted, w: usize, s: usize, room0: usize, room1: usize) {
-    let mut words = [0u64; 16];
-    let mut nines = [9u64; 16];
-    let mut key0 = [7u8; 320];
-    let mut key1 = [7u8; 320];
-    fill(&mut words, 5);
-    make_in(
-        name,
-        p,
-        elements(&words, 0, w),
-        lent_cells(&mut nines, s),
-        lent_bytes(&mut key0, room0),
-        lent_bytes(&mut key1, room1),
-    );
+    print!(rt; "make {}  {}", case.name, Told(made))?;
+    print!(rt; "; zeros {} of {}", zeros(scratch), scratch.len())?;
+    println!(rt; "; buffers {:016x} {:016x}", fold(key0), fold(key1))
 }
 
 // ---- what is given
 
-// With words, scratch and room for two buckets.
-fn given(name: &[u8], d: u64, b: u64, points: Few, n: usize) {
-    make(name, posting(d, b, 7, points, some(n)), 8, 12, 300, 300);
-}
-
-// The same with one point and any value.
-fn alone(name: &[u8], d: u64, b: u64, point: u64, value: u64) {
-    make(
-        name,
-        posting(d, b, 7, one(point), one(value)),
-        8,
-        12,
-        300,
-        300,
-    );
-}
-
-// One point in one bucket of a domain too large to make here: scratch is an element short.
-fn large(name: &[u8], d: u64, point: u64) {
-    make(name, posting(d, 1, 7, one(point), one(5)), 8, 4, 300, 300);
-}
+// Cells, buckets, points and values.
+type Given = (&'static str, u64, u64, &'static [u64], &'static [u64]);
 
 // Document 01, "Known sums", the rows that are not marked: D and B pass where only the points are missing; a domain too large;
 // a point twice.
-pub(crate) fn known_sums() {
-    given(b"D 2^32 - 1, B 1, no points", 4294967295, 1, none(), 0);
-    given(b"D 2^32, B 1, no points", 4294967296, 1, none(), 0);
-    given(b"D 5, B 2, point 4 twice", 5, 2, two(4, 4), 2);
+const KNOWN_SUMS: [Given; 3] = [
+    ("D 2^32 - 1, B 1, no points", 4294967295, 1, &[], &[]),
+    ("D 2^32, B 1, no points", 4294967296, 1, &[], &[]),
+    ("D 5, B 2, point 4 twice", 5, 2, &[4, 4], &[10, 20]),
+];
+
+const SMALL_DOMAINS: [Given; 2] = [
+    ("D 0", 0, 2, &[1, 4], &[10, 20]),
+    ("D 1, B 1", 1, 1, &[0], &[5]),
+];
+
+// One point in one bucket of a domain too large to make here: scratch is an element short.
+const LARGE_DOMAINS: [Given; 3] = [
+    ("D 2^32 - 1, last point", 4294967295, 1, &[4294967294], &[5]),
+    (
+        "D 2^32 - 1, a point more",
+        4294967295,
+        1,
+        &[4294967295],
+        &[5],
+    ),
+    ("D 2^32, last point", 4294967296, 1, &[4294967295], &[5]),
+];
+
+const COUNTS: [Given; 9] = [
+    ("B 0", 5, 0, &[1, 4], &[10, 20]),
+    ("B 65535", 5, 65535, &[1, 4], &[10, 20]),
+    ("B 65536", 5, 65536, &[1, 4], &[10, 20]),
+    ("no points, no values", 5, 2, &[], &[]),
+    ("n 1, B 2", 5, 2, &[4], &[20]),
+    ("n 2, B 2", 5, 2, &[1, 4], &[10, 20]),
+    ("n 3, B 2", 5, 2, &[1, 2, 4], &[10, 20, 30]),
+    ("n 2, 1 value", 5, 2, &[1, 4], &[10]),
+    ("n 2, 3 values", 5, 2, &[1, 4], &[10, 20, 30]),
+];
+
+const ORDERS: [Given; 5] = [
+    ("points 3 4", 5, 2, &[3, 4], &[10, 20]),
+    ("points 3 3", 5, 2, &[3, 3], &[10, 20]),
+    ("points 3 2", 5, 2, &[3, 2], &[10, 20]),
+    ("points 3 5", 5, 2, &[3, 5], &[10, 20]),
+    ("point 5", 5, 2, &[5], &[10]),
+];
+
+fn all_given(rt: &impl Print, cases: &[Given], scratch: usize) -> io::Result<()> {
+    for (name, domain, buckets, points, values) in cases.iter().copied() {
+        make(
+            rt,
+            &Case {
+                name,
+                domain,
+                buckets,
+                points,
+                values,
+                scratch,
+                ..GIVEN
+            },
+        )?;
+    }
+    Ok(())
 }
 
-fn small_domains() {
-    given(b"D 0", 0, 2, two(1, 4), 2);
-    alone(b"D 1, B 1", 1, 1, 0, 5);
+pub(crate) fn known_sums(rt: &impl Print) -> io::Result<()> {
+    all_given(rt, &KNOWN_SUMS, 12)
 }
 
-fn large_domains() {
-    large(b"D 2^32 - 1, last point", 4294967295, 4294967294);
-    large(b"D 2^32 - 1, a point more", 4294967295, 4294967295);
-    large(b"D 2^32, last point", 4294967296, 4294967295);
-}
-
-fn bucket_counts() {
-    given(b"B 0", 5, 0, two(1, 4), 2);
-    given(b"B 65535", 5, 65535, two(1, 4), 2);
-    given(b"B 65536", 5, 65536, two(1, 4), 2);
-}
-
-fn point_counts() {
-    given(b"no points, no values", 5, 2, none(), 0);
-    alone(b"n 1, B 2", 5, 2, 4, 20);
-    given(b"n 2, B 2", 5, 2, two(1, 4), 2);
-    given(b"n 3, B 2", 5, 2, three(1, 2, 4), 3);
-}
-
-fn value_counts() {
-    given(b"n 2, 1 value", 5, 2, two(1, 4), 1);
-    given(b"n 2, 3 values", 5, 2, two(1, 4), 3);
-}
-
-fn point_orders() {
-    given(b"points 3 4", 5, 2, two(3, 4), 2);
-    given(b"points 3 3", 5, 2, two(3, 3), 2);
-    given(b"points 3 2", 5, 2, two(3, 2), 2);
-    given(b"points 3 5", 5, 2, two(3, 5), 2);
-    alone(b"point 5", 5, 2, 5, 10);
+pub(crate) fn given(rt: &impl Print) -> io::Result<()> {
+    all_given(rt, &SMALL_DOMAINS, 12)?;
+    all_given(rt, &LARGE_DOMAINS, 4)?;
+    all_given(rt, &COUNTS, 12)?;
+    all_given(rt, &ORDERS, 12)
 }
 
 // ---- what is lent
 
-// The posting 10 at cell 1, 20 at cell 4 among five cells in two buckets, with these lengths.
-fn lent(name: &[u8], w: usize, s: usize, room0: usize, room1: usize) {
-    make(
-        name,
-        posting(5, 2, 7, two(1, 4), some(2)),
-        w,
-        s,
-        room0,
-        room1,
-    );
-}
-
 // Scratch 4B + n, words, and either buffer's room; what is beyond stays as it was. An odd last element of words is ignored.
-fn scratch_lengths() {
-    lent(b"scratch 9", 8, 9, 264, 264);
-    lent(b"scratch 10", 8, 10, 264, 264);
-    lent(b"scratch 11", 8, 11, 264, 264);
-}
-
-fn word_counts() {
-    lent(b"words 7", 7, 11, 264, 264);
-    lent(b"words 8", 8, 11, 264, 264);
-    lent(b"words 9", 9, 11, 264, 264);
-}
-
-fn buffer_lengths() {
-    lent(b"room 263 and 264", 8, 11, 263, 264);
-    lent(b"room 264 and 263", 8, 11, 264, 263);
-    lent(b"room 265 and 264", 8, 11, 265, 264);
-    lent(b"room 264 and 265", 8, 11, 264, 265);
+pub(crate) fn lent_lengths(rt: &impl Print) -> io::Result<()> {
+    for (name, words, scratch, rooms) in [
+        ("scratch 9", 8, 9, [264, 264]),
+        ("scratch 10", 8, 10, [264, 264]),
+        ("scratch 11", 8, 11, [264, 264]),
+        ("words 7", 7, 11, [264, 264]),
+        ("words 8", 8, 11, [264, 264]),
+        ("words 9", 9, 11, [264, 264]),
+        ("room 263 and 264", 8, 11, [263, 264]),
+        ("room 264 and 263", 8, 11, [264, 263]),
+        ("room 265 and 264", 8, 11, [265, 264]),
+        ("room 264 and 265", 8, 11, [264, 265]),
+    ] {
+        make(
+            rt,
+            &Case {
+                name,
+                words,
+                scratch,
+                rooms,
+                ..GIVEN
+            },
+        )?;
+    }
+    Ok(())
 }
 
 // ---- the order
 
-// With two values, and as much room in both buffers.
-fn mended(name: &[u8], d: u64, b: u64, seed: u64, points: Few, w: usize, s: usize, r: usize) {
-    make(name, posting(d, b, seed, points, some(2)), w, s, r, r);
-}
-
-// Everything is wrong, and then one thing after the other is mended: refusals 1 to 8 in their order, first what is given.
-fn order_of_given() {
-    mended(b"all wrong", 0, 0, 0, one(4), 0, 0, 0);
-    mended(b"D mended", 5, 0, 0, one(4), 0, 0, 0);
-    mended(b"B mended", 5, 2, 0, one(4), 0, 0, 0);
-    mended(b"n mended", 5, 2, 0, two(4, 1), 0, 0, 0);
-    mended(b"points mended", 5, 2, 0, two(1, 4), 0, 0, 0);
-}
-
-// And what is lent. Hash keys of zeros put both points into one bucket.
-fn order_of_lent() {
-    mended(b"scratch mended", 5, 2, 0, two(1, 4), 0, 11, 0);
-    mended(b"hash keys mended", 5, 2, 7, two(1, 4), 0, 11, 0);
-    mended(b"words mended", 5, 2, 7, two(1, 4), 8, 11, 0);
-    mended(b"all mended", 5, 2, 7, two(1, 4), 8, 11, 264);
-}
-
-pub(crate) fn all() {
-    small_domains();
-    large_domains();
-    bucket_counts();
-    point_counts();
-    value_counts();
-    point_orders();
-    scratch_lengths();
-    word_counts();
-    buffer_lengths();
-    order_of_given();
-    order_of_lent();
+// Everything is wrong, and then one thing after the other is mended: refusals 1 to 8 in their order, first what is given, and
+// then what is lent. Hash keys of zeros put both points into one bucket.
+pub(crate) fn order(rt: &impl Print) -> io::Result<()> {
+    let all_wrong = Case {
+        name: "all wrong",
+        domain: 0,
+        buckets: 0,
+        seed: 0,
+        points: &[4],
+        words: 0,
+        scratch: 0,
+        rooms: [0, 0],
+        ..GIVEN
+    };
+    let domain = Case {
+        name: "D mended",
+        domain: 5,
+        ..all_wrong
+    };
+    let buckets = Case {
+        name: "B mended",
+        buckets: 2,
+        ..domain
+    };
+    let count = Case {
+        name: "n mended",
+        points: &[4, 1],
+        ..buckets
+    };
+    let points = Case {
+        name: "points mended",
+        points: &[1, 4],
+        ..count
+    };
+    let scratch = Case {
+        name: "scratch mended",
+        scratch: 11,
+        ..points
+    };
+    let hash_keys = Case {
+        name: "hash keys mended",
+        seed: 7,
+        ..scratch
+    };
+    let words = Case {
+        name: "words mended",
+        words: 8,
+        ..hash_keys
+    };
+    let all = Case {
+        name: "all mended",
+        rooms: [264, 264],
+        ..words
+    };
+    for case in [
+        all_wrong, domain, buckets, count, points, scratch, hash_keys, words, all,
+    ] {
+        make(rt, &case)?;
+    }
+    Ok(())
 }

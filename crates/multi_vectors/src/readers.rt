@@ -1,265 +1,212 @@
 // Reading and adding at every limit of the lent slices: 9, 10, 5, 12 for one cell, 9, 5, 8, 12 for the whole domain, 9, 11, 5,
 // 12 for adding, in their order, and what each leaves. Before each call scratch, output and table hold nines. Then an image of
 // 152 bytes that claims a huge domain.
-ghost use Rattle.std.specs.Prelude.{◌≡◌, length};
-
 use multi::{calls, image};
-use tools::{answer, elements, fill, hex, keys, lent_cells, list, number, part, zeros};
-use words::{bytes, sums};
-
-// The calls: one cell, the whole domain, adding to a table.
-const CELL: u64 = 0;
-
-const DOMAIN: u64 = 1;
-
-const ADD: u64 = 2;
+use std::io;
+use tools::{Spaced, fill, first, keys, lent, zeros};
+use words::bytes;
+use words::refusals::number_in;
 
 // ---- the images
 
-// Party 0's key of a posting with n points, at the front of as many bytes as five cells in two buckets take.
-fn image_of(d: u64, b: u64, n: usize, points: [u64; 2], values: [u64; 2]) -> [u8; 264]
-    ensures { 264 ≡ length result }
-{
-    let mut words = [0u64; 8];
-    let mut s = [0u64; 17];
-    let mut key0 = [0u8; 264];
-    let mut key1 = [0u8; 264];
+// Party 0's key of a posting, at the front of as many bytes as five cells in two buckets take.
+fn image_of(domain: u64, buckets: u64, points: &[u64], values: &[u64]) -> [u8; 264] {
+    let mut words = [0; 8];
     fill(&mut words, 5);
-    calls::generate_keys(
-        d,
-        b,
+    let mut key0 = [0; 264];
+    let mut key1 = [0; 264];
+    let _ = calls::generate_keys(
+        domain,
+        buckets,
         keys(7),
-        elements(&points, 0, n),
-        elements(&values, 0, n),
+        points,
+        values,
         &words,
-        &mut s,
+        &mut [0; 17],
         &mut key0,
         &mut key1,
     );
     key0
 }
 
-// Ways to lend the image of 10 at cell 1 and 20 at cell 4 among five cells, in two buckets of 8 and 7 entries: without its last
-// byte; under other hash keys, so that no record has its bucket's size; and as it was made.
-const SHORT: u64 = 0;
-
-const STRANGE: u64 = 1;
-
-const WHOLE: u64 = 2;
-
-fn five(which: u64) -> [u8; 264]
-    ensures { 264 ≡ length result }
-{
-    let mut k = image_of(5, 2, 2, [1, 4], [10, 20]);
-    if which == STRANGE {
-        k[24] = 0;
-    }
-    k
+// Ways to lend the image of 10 at cell 1 and 20 at cell 4 among five cells, in two buckets of 8 and 7 entries.
+#[derive(Clone, Copy)]
+enum Image {
+    // Without its last byte.
+    Short,
+    // Under other hash keys, so that no record has its bucket's size.
+    Strange,
+    // As it was made.
+    Whole,
 }
 
-fn length_of(which: u64) -> usize {
-    if which == SHORT {
-        return 263;
+impl Image {
+    fn of(self, key: &mut [u8; 264]) -> &[u8] {
+        match self {
+            Image::Short => &key[..263],
+            Image::Strange => {
+                key[24] = 0;
+                key
+            }
+            Image::Whole => key,
+        }
     }
-    264
 }
 
 // The image of 5 at the only cell, in one bucket: 152 bytes. It claims so many cells.
-fn claiming(d: u64) -> [u8; 264]
-    ensures { 264 ≡ length result }
-{
-    let mut k = image_of(1, 1, 1, [0, 0], [5, 0]);
-    bytes::put_u64(&mut k, 8, d);
-    k
+fn claiming(domain: u64) -> [u8; 264] {
+    let mut key = image_of(1, 1, &[0], &[5]);
+    let _ = bytes::put_u64(&mut key, 8, domain);
+    key
 }
 
 // ---- one call
 
-// A number alone.
-fn alone(number: u64) -> calls::Share {
-    calls::Share { number, share: 0 }
+#[derive(Clone, Copy)]
+enum Call {
+    // One cell, at an index.
+    Cell(u64),
+    // The whole domain.
+    Domain,
+    // Adding to a table.
+    Add,
 }
 
-fn called(call: u64, k: &[u8], index: u64, scratch: &mut [u64], t: &mut [u64]) -> calls::Share {
-    if call == CELL {
-        return calls::evaluate_at(k, index, scratch);
+impl Call {
+    // The number that it answers, and of one cell the share, 0 on refusal.
+    fn answer(self, key: &[u8], scratch: &mut [u64], cells: &mut [u64]) -> (u64, Option<u64>) {
+        match self {
+            Call::Cell(index) => {
+                let share = calls::evaluate_at(key, index, scratch);
+                (number_in(&share), Some(share.unwrap_or(0)))
+            }
+            Call::Domain => {
+                let read = calls::evaluate_domain(key, scratch, cells);
+                (number_in(&read), None)
+            }
+            Call::Add => {
+                let added = calls::add_to(key, scratch, cells);
+                (number_in(&added), None)
+            }
+        }
     }
-    if call == DOMAIN {
-        return alone(calls::evaluate_domain(k, scratch, t));
-    }
-    alone(calls::add_to(k, scratch, t))
-}
-
-// What a call answered, and how many elements of scratch are 0.
-fn answered(call: u64, r: calls::Share, scratch: &[u64; 36]) {
-    number(b"  number ", r.number);
-    if call == CELL {
-        hex(b", share ", r.share);
-    }
-    number(b"; zeros ", zeros(scratch));
-    number(b" of ", 36);
-}
-
-// The six cells of an output or a table, and the end of the line.
-fn six(call: u64, t: &[u64; 6]) {
-    if call == DOMAIN {
-        list(b"; output", t);
-    }
-    if call == ADD {
-        list(b"; table", t);
-    }
-    io::write_all(1, b"\n");
-}
-
-// A call with so many elements of scratch and so many of the output or the table: at most 36 and 6.
-fn read(call: u64, k: &[u8], index: u64, scratch: usize, room: usize) {
-    let mut nines = [9u64; 36];
-    let mut t = [9u64; 6];
-    let r = called(
-        call,
-        k,
-        index,
-        lent_cells(&mut nines, scratch),
-        lent_cells(&mut t, room),
-    );
-    answered(call, r, &nines);
-    six(call, &t);
-}
-
-fn case(call: u64, name: &[u8], which: u64, index: u64, scratch: usize, room: usize) {
-    let k = five(which);
-    io::write_all(1, name);
-    read(call, part(&k, 0, length_of(which)), index, scratch, room);
 }
 
 // ---- the limits
 
-fn cell_limits() {
-    case(CELL, b"cell: index 0, scratch 2", WHOLE, 0, 2, 0);
-    case(CELL, b"cell: index 4, scratch 2", WHOLE, 4, 2, 0);
-    case(CELL, b"cell: index 5, scratch 2", WHOLE, 5, 2, 0);
-    case(CELL, b"cell: index 4, scratch 1", WHOLE, 4, 1, 0);
-    case(CELL, b"cell: index 4, scratch 3", WHOLE, 4, 3, 0);
+// A call with so many elements of scratch and so many of the output or the table: at most 36 and 6.
+fn read(
+    rt: &impl Print,
+    name: &str,
+    image: Image,
+    call: Call,
+    scratch: usize,
+    room: usize,
+) -> io::Result<()> {
+    let mut key = image_of(5, 2, &[1, 4], &[10, 20]);
+    let mut nines = [9; 36];
+    let mut cells = [9; 6];
+    let (number, share) = call.answer(
+        image.of(&mut key),
+        lent(&mut nines, scratch),
+        lent(&mut cells, room),
+    );
+    print!(rt; "{name}  number {number}")?;
+    if let Some(share) = share {
+        print!(rt; ", share {share:016x}")?;
+    }
+    print!(rt; "; zeros {} of 36", zeros(&nines))?;
+    match call {
+        Call::Cell(_) => println!(rt),
+        Call::Domain => println!(rt; "; output{}", Spaced(&cells)),
+        Call::Add => println!(rt; "; table{}", Spaced(&cells)),
+    }
 }
 
-fn domain_limits() {
-    case(DOMAIN, b"domain: scratch 33, room 5", WHOLE, 0, 33, 5);
-    case(DOMAIN, b"domain: scratch 34, room 4", WHOLE, 0, 34, 4);
-    case(DOMAIN, b"domain: scratch 34, room 5", WHOLE, 0, 34, 5);
-    case(DOMAIN, b"domain: scratch 35, room 6", WHOLE, 0, 35, 6);
-}
-
-fn table_limits() {
-    case(ADD, b"add: table 4, scratch 34", WHOLE, 0, 34, 4);
-    case(ADD, b"add: table 6, scratch 34", WHOLE, 0, 34, 6);
-    case(ADD, b"add: table 5, scratch 33", WHOLE, 0, 33, 5);
-    case(ADD, b"add: table 5, scratch 34", WHOLE, 0, 34, 5);
-    case(ADD, b"add: table 5, scratch 35", WHOLE, 0, 35, 5);
-}
-
-// ---- the order: everything is wrong, and then one thing after the other is mended
-
-fn cell_order() {
-    case(CELL, b"cell: all wrong", SHORT, 5, 0, 0);
-    case(CELL, b"cell: length mended", STRANGE, 5, 0, 0);
-    case(CELL, b"cell: index mended", STRANGE, 4, 0, 0);
-    case(CELL, b"cell: scratch mended", STRANGE, 4, 3, 0);
-    case(CELL, b"cell: all mended", WHOLE, 4, 3, 0);
-}
-
-fn domain_order() {
-    case(DOMAIN, b"domain: all wrong", SHORT, 0, 0, 0);
-    case(DOMAIN, b"domain: length mended", STRANGE, 0, 0, 0);
-    case(DOMAIN, b"domain: scratch mended", STRANGE, 0, 35, 0);
-    case(DOMAIN, b"domain: room mended", STRANGE, 0, 35, 6);
-    case(DOMAIN, b"domain: all mended", WHOLE, 0, 35, 6);
-}
-
-fn table_order() {
-    case(ADD, b"add: all wrong", SHORT, 0, 0, 0);
-    case(ADD, b"add: length mended", STRANGE, 0, 0, 0);
-    case(ADD, b"add: table mended", STRANGE, 0, 0, 5);
-    case(ADD, b"add: scratch mended", STRANGE, 0, 35, 5);
-    case(ADD, b"add: all mended", WHOLE, 0, 35, 5);
+// For each call its limits, and then the order: everything is wrong, and one thing after the other is mended.
+fn limits(rt: &impl Print) -> io::Result<()> {
+    use Call::{Add, Cell, Domain};
+    use Image::{Short, Strange, Whole};
+    for (name, image, call, scratch, room) in [
+        ("cell: index 0, scratch 2", Whole, Cell(0), 2, 0),
+        ("cell: index 4, scratch 2", Whole, Cell(4), 2, 0),
+        ("cell: index 5, scratch 2", Whole, Cell(5), 2, 0),
+        ("cell: index 4, scratch 1", Whole, Cell(4), 1, 0),
+        ("cell: index 4, scratch 3", Whole, Cell(4), 3, 0),
+        ("cell: all wrong", Short, Cell(5), 0, 0),
+        ("cell: length mended", Strange, Cell(5), 0, 0),
+        ("cell: index mended", Strange, Cell(4), 0, 0),
+        ("cell: scratch mended", Strange, Cell(4), 3, 0),
+        ("cell: all mended", Whole, Cell(4), 3, 0),
+        ("domain: scratch 33, room 5", Whole, Domain, 33, 5),
+        ("domain: scratch 34, room 4", Whole, Domain, 34, 4),
+        ("domain: scratch 34, room 5", Whole, Domain, 34, 5),
+        ("domain: scratch 35, room 6", Whole, Domain, 35, 6),
+        ("domain: all wrong", Short, Domain, 0, 0),
+        ("domain: length mended", Strange, Domain, 0, 0),
+        ("domain: scratch mended", Strange, Domain, 35, 0),
+        ("domain: room mended", Strange, Domain, 35, 6),
+        ("domain: all mended", Whole, Domain, 35, 6),
+        ("add: table 4, scratch 34", Whole, Add, 34, 4),
+        ("add: table 6, scratch 34", Whole, Add, 34, 6),
+        ("add: table 5, scratch 33", Whole, Add, 33, 5),
+        ("add: table 5, scratch 34", Whole, Add, 34, 5),
+        ("add: table 5, scratch 35", Whole, Add, 35, 5),
+        ("add: all wrong", Short, Add, 0, 0),
+        ("add: length mended", Strange, Add, 0, 0),
+        ("add: table mended", Strange, Add, 0, 5),
+        ("add: scratch mended", Strange, Add, 35, 5),
+        ("add: all mended", Whole, Add, 35, 5),
+    ] {
+        read(rt, name, image, call, scratch, room)?;
+    }
+    Ok(())
 }
 
 // ---- 152 bytes that claim a huge domain: each call is refused before a cell is hashed
 
-// How many elements are 0.
-#[derive(Clone, Copy)]
-struct Left {
-    scratch: u64,
-    table: u64,
+// A call with so many elements of scratch, at most 36, and six of the output or the table; how many elements of scratch, and of
+// the other, are 0 behind it.
+fn huge(
+    rt: &impl Print,
+    name: &str,
+    domain: u64,
+    call: Call,
+    scratch: usize,
+) -> io::Result<(usize, usize)> {
+    let key = claiming(domain);
+    let mut nines = [9; 36];
+    let mut cells = [9; 6];
+    let (number, _) = call.answer(first(&key, 152), lent(&mut nines, scratch), &mut cells);
+    println!(rt; "152 bytes, D 2^32{name}  number {number}")?;
+    Ok((zeros(&nines), zeros(&cells)))
 }
 
-fn left_in(nines: &[u64; 36], t: &[u64; 6]) -> Left {
-    Left {
-        scratch: zeros(nines),
-        table: zeros(t),
-    }
-}
-
-fn claim(name: &[u8], x: u64) {
-    io::write_all(1, b"152 bytes, D 2^32");
-    answer(name, x);
-}
-
-// A call with so many elements of scratch, at most 36, and six of the output or the table.
-fn huge(name: &[u8], d: u64, call: u64, index: u64, scratch: usize) -> Left {
-    let k = claiming(d);
-    let mut nines = [9u64; 36];
-    let mut t = [9u64; 6];
-    let key = part(&k, 0, 152);
-    let r = called(call, key, index, lent_cells(&mut nines, scratch), &mut t);
-    claim(name, r.number);
-    left_in(&nines, &t)
-}
-
-fn huge_cells() {
-    let a = huge(
-        b" - 1: cell 2^32 - 1  number ",
-        4294967295,
-        CELL,
-        4294967295,
-        36,
-    );
-    let b = huge(
-        b" - 1: cell 2^32 - 2, no scratch  number ",
-        4294967295,
-        CELL,
-        4294967294,
+fn huge_domains(rt: &impl Print) -> io::Result<()> {
+    const D: u64 = 4294967295;
+    let (a, _) = huge(rt, " - 1: cell 2^32 - 1", D, Call::Cell(4294967295), 36)?;
+    let (b, _) = huge(
+        rt,
+        " - 1: cell 2^32 - 2, no scratch",
+        D,
+        Call::Cell(4294967294),
         0,
-    );
-    claim(b" - 1: zeros ", sums::plus(a.scratch, b.scratch));
+    )?;
+    println!(rt; "152 bytes, D 2^32 - 1: zeros {}", a.saturating_add(b))?;
+    let (a, c) = huge(rt, " - 1: whole domain", D, Call::Domain, 36)?;
+    let (b, d) = huge(rt, " - 1: table of 6 cells", D, Call::Add, 36)?;
+    let number = number_in(&image::record_number(first(&claiming(D), 152), 0));
+    println!(rt; "152 bytes, D 2^32 - 1: record 0  number {number}")?;
+    println!(rt;
+        "152 bytes, D 2^32 - 1: zeros {} and {}",
+        a.saturating_add(b),
+        c.saturating_add(d)
+    )?;
+    huge(rt, ": cell 0", 4294967296, Call::Cell(0), 36)?;
+    Ok(())
 }
 
-fn huge_record() {
-    let k = claiming(4294967295);
-    claim(
-        b" - 1: record 0  number ",
-        image::record_number(part(&k, 0, 152), 0),
-    );
-}
-
-fn huge_tables() {
-    let a = huge(b" - 1: whole domain  number ", 4294967295, DOMAIN, 0, 36);
-    let b = huge(b" - 1: table of 6 cells  number ", 4294967295, ADD, 0, 36);
-    huge_record();
-    number(
-        b"152 bytes, D 2^32 - 1: zeros ",
-        sums::plus(a.scratch, b.scratch),
-    );
-    answer(b" and ", sums::plus(a.table, b.table));
-}
-
-pub(crate) fn all() {
-    cell_limits();
-    cell_order();
-    domain_limits();
-    domain_order();
-    table_limits();
-    table_order();
-    huge_cells();
-    huge_tables();
-    huge(b": cell 0  number ", 4294967296, CELL, 0, 36);
+pub(crate) fn all(rt: &impl Print) -> io::Result<()> {
+    limits(rt)?;
+    huge_domains(rt)
 }

@@ -1,277 +1,251 @@
-// The desk: what is posted, the keys of it, and the plain table of it. Both images of posting k stand in the mails of the
-// partners from mark k to mark k + 1.
-use tools::{elements, fill, fold_bytes, hex, keys, list, number};
-use words::{cells, sums};
+// The desk: the postings, the keys made of them, the mails of the partners, and what all that was posted gives in clear.
+use std::{fmt, io};
+use tools::{Spaced, fill, fold, keys, part};
+use words::refusals::{Refusal, number_in};
+use words::sums;
 
 // ---- the postings
 
-// So many cells and buckets, no buckets for a single key; so many points and values stand below from `first` on.
+// What is posted over so many cells.
 #[derive(Clone, Copy)]
 pub(crate) struct Posting {
     pub(crate) domain: u64,
-    pub(crate) buckets: u64,
-    first: usize,
-    count: usize,
+    pub(crate) posted: Posted,
+}
+
+// One value at a point, or several values in buckets.
+#[derive(Clone, Copy)]
+pub(crate) enum Posted {
+    Single {
+        point: u64,
+        value: u64,
+    },
+    Multi {
+        buckets: u64,
+        points: &'static [u64],
+        values: &'static [u64],
+    },
+}
+
+fn single(domain: u64, point: u64, value: u64) -> Posting {
+    let posted = Posted::Single { point, value };
+    Posting { domain, posted }
+}
+
+fn multi(domain: u64, buckets: u64, points: &'static [u64], values: &'static [u64]) -> Posting {
+    let posted = Posted::Multi {
+        buckets,
+        points,
+        values,
+    };
+    Posting { domain, posted }
 }
 
 // 0 to 5 are for the table of 40 cells, 6 and 7 are over other domains, and 8 is spoiled. In 0 one value wraps and one is 0;
 // 2 has as many points as buckets; 4 has one point among many buckets.
-const POSTINGS: [[u64; 4]; 9] = [
-    [40, 8, 0, 4],
-    [40, 0, 4, 1],
-    [40, 3, 5, 3],
-    [40, 0, 8, 1],
-    [40, 24, 9, 1],
-    [40, 12, 10, 10],
-    [41, 3, 5, 3],
-    [39, 0, 20, 1],
-    [40, 3, 5, 3],
-];
+pub(crate) fn postings() -> [Posting; 9] {
+    [
+        multi(40, 8, &[0, 1, 20, 39], &[1, u64::MAX, 0, 4]),
+        single(40, 20, 7),
+        multi(40, 3, &[1, 2, 20], &[10, 20, 30]),
+        single(40, 39, 18446744073709551612),
+        multi(40, 24, &[0], &[1000]),
+        multi(
+            40,
+            12,
+            &[0, 3, 6, 9, 12, 15, 18, 21, 24, 39],
+            &[1, 2, 4, 8, 16, 32, 64, 128, 256, 512],
+        ),
+        multi(41, 3, &[1, 2, 20], &[10, 20, 30]),
+        single(39, 20, 9),
+        multi(40, 3, &[1, 2, 20], &[10, 20, 30]),
+    ]
+}
 
-// The points, each list under the postings that have it.
-const POINTS: [u64; 21] = [
-    // 0
-    0, 1, 20, 39,
-    // 1
-    20,
-    // 2, 6 and 8
-    1, 2, 20,
-    // 3
-    39,
-    // 4
-    0,
-    // 5
-    0, 3, 6, 9, 12, 15, 18, 21, 24, 39,
-    // 7
-    20,
-];
+pub(crate) const SPOILED: usize = 8;
 
-// Their values.
-const VALUES: [u64; 21] = [
-    // 0
-    1,
-    18446744073709551615,
-    0,
-    4,
-    // 1
-    7,
-    // 2, 6 and 8
-    10,
-    20,
-    30,
-    // 3
-    18446744073709551612,
-    // 4
-    1000,
-    // 5
-    1,
-    2,
-    4,
-    8,
-    16,
-    32,
-    64,
-    128,
-    256,
-    512,
-    // 7
-    9,
-];
-
-// Posting k; behind the last one a posting of nothing.
-pub(crate) fn posting_no(k: usize) -> Posting {
-    let rows = POSTINGS;
-    if 9 <= k {
-        return Posting {
-            domain: 0,
-            buckets: 0,
-            first: 0,
-            count: 0,
-        };
-    }
-    let row = rows[k];
-    Posting {
-        domain: row[0],
-        buckets: row[1],
-        first: row[2] as usize,
-        count: row[3] as usize,
+impl fmt::Display for Posting {
+    fn fmt<W: fmt::Write>(&self, f: &mut fmt::Formatter<W>) -> fmt::Result {
+        let domain = self.domain;
+        match self.posted {
+            Posted::Single { point, value } => {
+                write!(f, "single, D {domain}, point {point}, value {value}")
+            }
+            Posted::Multi {
+                buckets,
+                points,
+                values,
+            } => {
+                write!(
+                    f,
+                    "multi, D {domain}, B {buckets}, points{}",
+                    Spaced(points)
+                )?;
+                write!(f, ", values{}", Spaced(values))
+            }
+        }
     }
 }
 
 // ---- making
 
-// What is posted.
-fn posted(k: usize, p: Posting, points: &[u64], values: &[u64]) {
-    number(b"posting ", k as u64);
-    if p.buckets == 0 {
-        number(b": single, D ", p.domain);
-        list(b", point", points);
-        list(b", value", values);
-    } else {
-        number(b": multi, D ", p.domain);
-        number(b", B ", p.buckets);
-        list(b", points", points);
-        list(b", values", values);
-    }
-}
-
 // What making answered; of a single key there are no evictions.
-fn made(p: Posting, r: multi::calls::Generated) {
-    number(b"  number ", r.number);
-    number(b", length ", r.length);
-    number(b", words ", r.words);
-    if p.buckets != 0 {
-        number(b", evictions ", r.evictions);
-    }
-    io::write_all(1, b"\n");
+#[derive(Clone, Copy, Default)]
+struct Made {
+    length: u64,
+    words: u64,
+    evictions: Option<u64>,
 }
 
-// A single pair, with words from its value.
-fn one(
-    d: u64,
-    point: u64,
-    value: u64,
-    key0: &mut [u8],
-    key1: &mut [u8],
-) -> multi::calls::Generated {
-    let mut words = [0u64; 4];
-    fill(&mut words, value);
-    let r = single::calls::generate_keys(d, point, value, &words, key0, key1);
-    multi::calls::Generated {
-        number: r.number,
-        length: r.length,
-        words: r.words,
-        evictions: 0,
+impl fmt::Display for Made {
+    fn fmt<W: fmt::Write>(&self, f: &mut fmt::Formatter<W>) -> fmt::Result {
+        write!(f, "length {}, words {}", self.length, self.words)?;
+        match self.evictions {
+            Some(evictions) => write!(f, ", evictions {evictions}"),
+            None => Ok(()),
+        }
     }
 }
 
-// A multi pair, with words and hash keys from its bucket count.
-fn many(
-    p: Posting,
-    points: &[u64],
-    values: &[u64],
-    key0: &mut [u8],
-    key1: &mut [u8],
-) -> multi::calls::Generated {
-    let d = p.domain;
-    let b = p.buckets;
-    let mut words = [0u64; 96];
-    let mut s = [0u64; 108];
-    fill(&mut words, b);
-    multi::calls::generate_keys(d, b, keys(b), points, values, &words, &mut s, key0, key1)
-}
-
-// Both images of a posting, at the front of what is lent.
-fn make(
-    p: Posting,
-    points: &[u64],
-    values: &[u64],
-    key0: &mut [u8],
-    key1: &mut [u8],
-) -> multi::calls::Generated {
-    if p.buckets == 0 {
-        let point = cells::element(points, 0);
-        let value = cells::element(values, 0);
-        return one(p.domain, point, value, key0, key1);
+impl Posting {
+    // Both images, at the front of what is lent: a single pair with words from its value, a multi pair with words and hash keys
+    // from its bucket count.
+    fn make(self, key0: &mut [u8], key1: &mut [u8]) -> Result<Made, Refusal> {
+        let domain = self.domain;
+        match self.posted {
+            Posted::Single { point, value } => {
+                let mut words = [0; 4];
+                fill(&mut words, value);
+                let made = single::calls::generate_keys(domain, point, value, &words, key0, key1)?;
+                Ok(Made {
+                    length: made.length,
+                    words: made.words,
+                    evictions: None,
+                })
+            }
+            Posted::Multi {
+                buckets,
+                points,
+                values,
+            } => {
+                let mut words = [0; 96];
+                fill(&mut words, buckets);
+                let made = multi::calls::generate_keys(
+                    domain,
+                    buckets,
+                    keys(buckets),
+                    points,
+                    values,
+                    &words,
+                    &mut [0; 108],
+                    key0,
+                    key1,
+                )?;
+                Ok(Made {
+                    length: made.length,
+                    words: made.words,
+                    evictions: Some(made.evictions),
+                })
+            }
+        }
     }
-    many(p, points, values, key0, key1)
 }
 
-// The same from `at` on, and what making answered.
-fn make_at(
-    p: Posting,
-    points: &[u64],
-    values: &[u64],
+// ---- the mails
+
+// Where either image of a posting stands in the mail of its partner.
+#[derive(Clone, Copy)]
+pub(crate) struct Span {
     at: usize,
-    mail0: &mut [u8],
-    mail1: &mut [u8],
-) -> u64 {
-    if mail0.len() < at {
-        return 0;
-    }
-    if mail1.len() < at {
-        return 0;
-    }
-    let r = make(p, points, values, &mut mail0[at..], &mut mail1[at..]);
-    made(p, r);
-    r.length
+    length: usize,
 }
 
-// The images of posting k from `at` on; how many bytes either has.
-fn post(k: usize, at: usize, mail0: &mut [u8; 8192], mail1: &mut [u8; 8192]) -> u64 {
-    let p = posting_no(k);
-    let all_points = POINTS;
-    let all_values = VALUES;
-    let points = elements(&all_points, p.first, p.count);
-    let values = elements(&all_values, p.first, p.count);
-    posted(k, p, points, values);
-    make_at(p, points, values, at, mail0, mail1)
+// What a partner gets: for each posting the place of its image, and the images one behind the other.
+// Kept: what may not change (8192 bytes and not a Vec of the images: `post_all` prints a fold of all of them, zeros too).
+#[derive(Clone, Copy)]
+pub(crate) struct Mail {
+    spans: [Span; 9],
+    bytes: [u8; 8192],
 }
 
-pub(crate) fn make_all(marks: &mut [u64; 10], mail0: &mut [u8; 8192], mail1: &mut [u8; 8192]) {
-    let mut k: usize = 0;
-    while k < 9 {
-        let at = marks[k];
-        let length = post(k, at as usize, mail0, mail1);
-        marks[k + 1] = sums::plus(at, length);
-        k += 1;
+impl Mail {
+    // The image of posting k, or so many of its bytes; none behind the last posting.
+    pub(crate) fn image(&self, k: usize, cut: Option<usize>) -> &[u8] {
+        match self.spans.get(k) {
+            Some(span) => {
+                let length = cut.unwrap_or(span.length).min(span.length);
+                part(&self.bytes, span.at, length)
+            }
+            None => &[],
+        }
     }
-}
 
-// ---- sending
+    // The bytes from `at` on, to be written.
+    fn room(&mut self, at: usize) -> &mut [u8] {
+        self.bytes.get_mut(at..).unwrap_or(&mut [])
+    }
 
-// A byte of the hash keys of the image that begins at `at` is another one.
-fn spoil(mail: &mut [u8; 8192], at: usize) {
-    if at < 8000 {
-        mail[at + 24] = 0;
+    // A byte of the hash keys of an image is another one.
+    fn spoil(&mut self, k: usize) {
+        if let Some(span) = self.spans.get(k) {
+            if let Some(byte) = self.bytes.get_mut(span.at.saturating_add(24)) {
+                *byte = 0;
+            }
+        }
     }
 }
 
-// Posting 8 is spoiled. A fold of either mail.
-pub(crate) fn send(marks: &[u64; 10], mail0: &mut [u8; 8192], mail1: &mut [u8; 8192]) {
-    let at = marks[8] as usize;
-    spoil(mail0, at);
-    spoil(mail1, at);
-    hex(b"mail ", fold_bytes(mail0));
-    hex(b" ", fold_bytes(mail1));
-    io::write_all(1, b"\n");
+// Makes every posting, spoils one, and prints what making answered and a fold of either mail. Answers the mails of party 0 and
+// of party 1.
+pub(crate) fn post_all(rt: &impl Print) -> io::Result<(Mail, Mail)> {
+    let empty = Mail {
+        spans: [Span { at: 0, length: 0 }; 9],
+        bytes: [0; 8192],
+    };
+    let mut mail0 = empty;
+    let mut mail1 = empty;
+    let mut at: usize = 0;
+    for (k, posting) in postings().iter().enumerate() {
+        let answer = posting.make(mail0.room(at), mail1.room(at));
+        let made = answer.unwrap_or_default();
+        println!(rt;
+            "posting {k}: {posting}  number {}, {made}",
+            number_in(&answer)
+        )?;
+        let length = made.length as usize;
+        mail0.spans[k] = Span { at, length };
+        mail1.spans[k] = Span { at, length };
+        at = at.saturating_add(length);
+    }
+    mail0.spoil(SPOILED);
+    mail1.spoil(SPOILED);
+    println!(rt;
+        "mail {:016x} {:016x}",
+        fold(&mail0.bytes),
+        fold(&mail1.bytes)
+    )?;
+    Ok((mail0, mail1))
 }
 
 // ---- the plain table
 
 // A value at a point, in clear.
-fn add(point: u64, value: u64, plain: &mut [u64]) {
-    let x = point as usize;
-    if x < plain.len() {
-        plain[x] = sums::plus(plain[x], value);
+fn add(point: u64, value: u64, plain: &mut [u64; 40]) {
+    if let Some(cell) = plain.get_mut(point as usize) {
+        *cell = sums::plus(*cell, value);
     }
-}
-
-fn add_all(points: &[u64], values: &[u64], plain: &mut [u64]) {
-    let mut i: usize = 0;
-    while i < points.len() && i < values.len() {
-        add(points[i], values[i], plain);
-        i += 1;
-    }
-}
-
-// Posting k.
-fn add_posting(k: usize, plain: &mut [u64; 40]) {
-    let p = posting_no(k);
-    let points = POINTS;
-    let values = VALUES;
-    add_all(
-        elements(&points, p.first, p.count),
-        elements(&values, p.first, p.count),
-        plain,
-    );
 }
 
 // All that was posted, over what the partners' tables held at first.
 pub(crate) fn in_clear(plain: &mut [u64; 40]) {
-    let mut k: usize = 0;
-    while k < 6 {
-        add_posting(k, plain);
-        k += 1;
+    for posting in postings().iter().take(6) {
+        match posting.posted {
+            Posted::Single { point, value } => add(point, value, plain),
+            Posted::Multi { points, values, .. } => {
+                for (point, value) in points.iter().zip(values) {
+                    add(*point, *value, plain);
+                }
+            }
+        }
     }
 }

@@ -7,45 +7,31 @@
 mod desk;
 mod partners;
 
-use tools::{answer, hex, number};
+use std::io;
 use words::sums;
 
-// 1 where the two halves of a cell sum to what the plain table has, else 0.
-fn agrees(x: u64, a: u64, b: u64, plain: u64) -> u64 {
-    let sum = sums::plus(a, b);
-    number(b"cell ", x);
-    hex(b"  ", a);
-    hex(b" + ", b);
-    number(b" = ", sum);
-    answer(b", plain ", plain);
-    if sum == plain {
-        return 1;
+// The cells of both tables and their sum beside the plain table, and how many agree.
+fn compare(rt: &impl Print, t0: &[u64; 40], t1: &[u64; 40], plain: &[u64; 40]) -> io::Result<()> {
+    for (x, ((a, b), plain)) in t0.iter().zip(t1).zip(plain).enumerate() {
+        let sum = sums::plus(*a, *b);
+        println!(rt; "cell {x}  {a:016x} + {b:016x} = {sum}, plain {plain}")?;
     }
-    0
+    let agree = t0
+        .iter()
+        .zip(t1)
+        .zip(plain)
+        .filter(|((a, b), plain)| sums::plus(**a, **b) == **plain)
+        .count();
+    println!(rt; "cells {}, of which agree {agree}", plain.len())
 }
 
-fn compare(t0: &[u64; 40], t1: &[u64; 40], plain: &[u64; 40]) {
-    let mut agree: u64 = 0;
-    let mut x: usize = 0;
-    while x < 40 {
-        agree = sums::plus(agree, agrees(x as u64, t0[x], t1[x], plain[x]));
-        x += 1;
-    }
-    number(b"cells ", x as u64);
-    answer(b", of which agree ", agree);
-}
-
-fn main() {
-    let mut marks = [0u64; 10];
-    let mut mail0 = [0u8; 8192];
-    let mut mail1 = [0u8; 8192];
-    let mut t0 = [0u64; 40];
-    let mut t1 = [6u64; 40];
-    let mut plain = [6u64; 40];
-    desk::make_all(&mut marks, &mut mail0, &mut mail1);
-    desk::send(&marks, &mut mail0, &mut mail1);
-    partners::partner(0, 0, 11, &marks, &mail0, &mut t0);
-    partners::partner(1, 11, 22, &marks, &mail1, &mut t1);
+fn main(rt: HostRuntime) -> io::Result<()> {
+    let mut t0 = [0; 40];
+    let mut t1 = [6; 40];
+    let mut plain = [6; 40];
+    let (mail0, mail1) = desk::post_all(&rt)?;
+    partners::partner(&rt, 0, &partners::first(), &mail0, &mut t0)?;
+    partners::partner(&rt, 1, &partners::second(), &mail1, &mut t1)?;
     desk::in_clear(&mut plain);
-    compare(&t0, &t1, &plain);
+    compare(&rt, &t0, &t1, &plain)
 }

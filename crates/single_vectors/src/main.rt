@@ -7,6 +7,10 @@
 mod limits;
 mod pairs;
 
+use single::calls;
+use std::{fmt, io};
+use words::refusals::{Refusal, number_in};
+
 // The random words of every pair: two words, low half first.
 pub(crate) const WORDS: [u64; 4] = [
     0x0123_4567_89ab_cdef,
@@ -15,8 +19,24 @@ pub(crate) const WORDS: [u64; 4] = [
     0x8796_a5b4_c3d2_e1f0,
 ];
 
-fn main() {
-    pairs::all();
-    limits::makers();
-    limits::readers();
+// What making answered: 0 and what it made, or a refusal's number and zeros.
+// Kept: the new form is no plainer (one type with that of multi_vectors: the two `Made` differ, and so do the lines).
+#[derive(Clone, Copy)]
+pub(crate) struct Told(pub(crate) Result<calls::Made, Refusal>);
+
+impl fmt::Display for Told {
+    fn fmt<W: fmt::Write>(&self, f: &mut fmt::Formatter<W>) -> fmt::Result {
+        let (length, words) = self.0.map_or((0, 0), |made| (made.length, made.words));
+        write!(
+            f,
+            "number {}, length {length}, words {words}",
+            number_in(&self.0)
+        )
+    }
+}
+
+fn main(rt: HostRuntime) -> io::Result<()> {
+    pairs::all(&rt)?;
+    limits::makers(&rt)?;
+    limits::readers(&rt)
 }

@@ -1,4 +1,5 @@
--- What the programs that show and replay answers share: numbers that stand for a list, a fixed sequence, and parts of a list.
+-- What the programs of vectors share: numbers that stand for a list, a fixed sequence, parts of a list, and how words
+-- and lists are printed.
 --     turned f x       f turned left by one bit, plus x, modulo 2 ^ 64
 --     folded f l       f with each element of l turned in, one after the other
 --     zeros_in l        how many elements of l are 0
@@ -6,10 +7,17 @@
 --     later n x        the number n places behind x
 --     drawn s i        number i of those that a seed s gives: the first stands three places behind it
 --     part l a n       the n elements of l from a on; none where they are not all there
+--     digits_16 n      16 hexadecimal digits of n
+--     halves w         the high half of w and its low half, 16 digits each, a space between them
+--     spaced l         each element of l, a space before it
+--     held l           of each element of l that is not 0 its place and what it is, a space before and a colon between them
 -- Assumes nothing.
-use Rattle.std.specs.Prelude.{cond, List, [], ◌∷◌, ℕ, zero, suc, ◌+◌, ◌*◌, ◌/◌, ◌%◌, ◌^◌, leb, eqb, length, take, drop}
+use Rattle.std.specs.Prelude.{cond, false, codes, ◌++◌, ◌-◌, List, [], ◌∷◌, ℕ, zero, suc, ◌+◌, ◌*◌, ◌/◌, ◌%◌, ◌^◌, leb, eqb, length, take, drop}
+use Rattle.std.specs.List.{flat_map, enumerate_from}
 use Rattle.std.specs.Int.Bits.{bit_xor}
+use Rattle.std.specs.Fmt.{decimal, digits, padded_integral, format_spec}
 use Rattle.words.specs.Ring.{add}
+use Rattle.words.specs.declared.Word.{Word}
 
 -- ---- numbers that stand for a list
 
@@ -44,5 +52,22 @@ drawn seed i = later (i + 3) seed
 
 -- ---- parts
 
-unfoldable pub part : List ℕ → ℕ → ℕ → List ℕ
+unfoldable pub part : {A : Type 0} → List A → ℕ → ℕ → List A
 part l a n = cond (leb (a + n) (length l)) (take n (drop a l)) []
+
+-- ---- what is printed
+
+abbrev pub digits_16 : ℕ → List ℕ
+digits_16 n = padded_integral (format_spec 32 0 4 16 (2 ^ 64 - 1)) false [] (digits 16 false n)
+
+abbrev pub halves : Word → List ℕ
+halves w = digits_16 w.hi ++ (codes " " ++ digits_16 w.lo)
+
+abbrev pub spaced : List ℕ → List ℕ
+spaced xs = flat_map (λ x. codes " " ++ decimal x) xs
+
+abbrev pub held_at : ℕ × ℕ → List ℕ
+held_at cell = cond (eqb cell.1 0) [] (codes " " ++ (decimal cell.0 ++ (codes ":" ++ decimal cell.1)))
+
+abbrev pub held : List ℕ → List ℕ
+held xs = flat_map held_at (enumerate_from 0 xs)

@@ -1,132 +1,132 @@
-// What the programs that show and replay answers share: printing, numbers that stand for all elements of a slice, words and
-// hash keys from a seed, and parts of a slice. Every function is total. What each answers is in specs/Tools.antt; of what is
-// printed no contract can speak.
+// What the programs of vectors share: how words and slices are printed, numbers that stand for all elements of a slice, words
+// and hash keys, and parts of a slice. Every function is total. What each answers is in specs/Tools.antt.
 #![tactic(auto)]
 
-ghost use Rattle.std.specs.Prelude.{◌≡◌, ◌%◌, length, take};
+ghost use Rattle.std.specs.Prelude.{◌≡◌, ℕ, Some, ◌%◌, length, take, map};
 ghost use Rattle.words.specs.Cells.{tab};
 ghost use Rattle.tools.specs.Tools as spec;
 
-use words::sums;
+use std::fmt;
+use words::Word;
 
 // ---- printing
 
-// A name and a number; the answer is the number shown.
-pub fn number(name: &[u8], x: u64) -> u64
-    ensures { result ≡ x }
-{
-    io::write_all(1, name);
-    io::print_decimal(1, x);
-    x
-}
+// A word, 16 digits a half, the high half first.
+#[derive(Clone, Copy)]
+pub struct Halves(pub Word);
 
-// The end of a line: a name and the number that a call answered.
-pub fn answer(name: &[u8], x: u64) -> u64
-    ensures { result ≡ x }
-{
-    number(name, x);
-    io::write_all(1, b"\n");
-    x
-}
+impl fmt::Display for Halves {
+    ghost output = { λ w. Some (spec.halves w.0) };
 
-// 16 digits.
-pub fn hex(name: &[u8], x: u64) -> u64
-    ensures { result ≡ x }
-{
-    io::write_all(1, name);
-    io::print_hex(1, x, 16);
-    x
-}
-
-// A name, and every element after a space; the answer is how many there are.
-pub fn list(name: &[u8], t: &[u64]) -> usize
-    ensures { result ≡ length t.now }
-{
-    io::write_all(1, name);
-    let mut i: usize = 0;
-    while i < t.len() {
-        number(b" ", t[i]);
-        i += 1;
+    fn fmt<W: fmt::Write>(&self, f: &mut fmt::Formatter<W>) -> fmt::Result {
+        write!(f, "{:016x} {:016x}", self.0.hi, self.0.lo)
     }
-    i
 }
 
-// A line: a name, and the cells that are not 0, each with what it holds; the answer is how many cells there are.
-pub fn cells(name: &[u8], t: &[u64]) -> usize
-    ensures { result ≡ length t.now }
-{
-    io::write_all(1, name);
-    let mut x: usize = 0;
-    while x < t.len() {
-        if t[x] != 0 {
-            number(b" ", x as u64);
-            number(b":", t[x]);
+// Every element after a space.
+#[derive(Clone, Copy)]
+pub struct Spaced<'a>(pub &'a [u64]);
+
+impl fmt::Display for Spaced<'_> {
+    ghost output = { λ s. Some (spec.spaced s.0.now) };
+
+    fn fmt<W: fmt::Write>(&self, f: &mut fmt::Formatter<W>) -> fmt::Result {
+        for x in self.0 {
+            write!(f, " {x}")?;
         }
-        x += 1;
+        Ok(())
     }
-    io::write_all(1, b"\n");
-    x
+}
+
+// The cells that are not 0, each with what it holds, after a space.
+#[derive(Clone, Copy)]
+pub struct Held<'a>(pub &'a [u64]);
+
+impl fmt::Display for Held<'_> {
+    ghost output = { λ s. Some (spec.held s.0.now) };
+
+    fn fmt<W: fmt::Write>(&self, f: &mut fmt::Formatter<W>) -> fmt::Result {
+        for (i, x) in self.0.iter().enumerate() {
+            if *x != 0 {
+                write!(f, " {i}:{x}")?;
+            }
+        }
+        Ok(())
+    }
 }
 
 // ---- folds
 
-// The number f turned left by one bit, plus x.
-fn fold_in(f: u64, x: u64) -> u64
-    ensures { result ≡ spec.turned f x }
-{
-    sums::plus(sums::plus(f, f), sums::plus(f / 0x8000_0000_0000_0000, x))
+// What stands for a number of 64 bits.
+// Kept: what may not change (`fold` promises `folded` of the values `T.value`, and of `Into<u64>` only a relation is known).
+pub trait Number: Copy {
+    ghost value: { Self → ℕ };
+
+    fn number(self) -> u64
+        ensures { result ≡ value self };
 }
 
-// One number for all elements in their order.
-pub fn fold(t: &[u64]) -> u64
-    ensures { result ≡ spec.folded 0 t.now }
+impl Number for u64 {
+    ghost value = { λ x. x };
+
+    fn number(self) -> u64 {
+        self
+    }
+}
+
+impl Number for u8 {
+    ghost value = { λ x. x };
+
+    fn number(self) -> u64 {
+        u64::from(self)
+    }
+}
+
+// The number f turned left by one bit, plus x.
+#[tactic(auto, using(crate::proofs::ToolLaws::rotated))]
+fn turned(f: u64, x: u64) -> u64
+    ensures { result ≡ spec.turned f x }
 {
-    let mut f: u64 = 0;
-    let mut i: usize = 0;
-    while i < t.len() {
-        f = fold_in(f, t[i]);
-        i += 1;
+    f.rotate_left(1).wrapping_add(x)
+}
+
+// One number for all elements in their order; over numbers themselves `spec.folded 0 items.now`, as ToolLaws.fold_numbers says.
+pub fn fold<T: Number>(items: &[T]) -> u64
+    ensures { result ≡ spec.folded 0 (map T.value items.now) }
+{
+    let mut f = 0;
+    for x in items {
+        f = turned(f, x.number());
     }
     f
 }
 
 // How many elements are 0.
-pub fn zeros(t: &[u64]) -> u64
-    ensures { result ≡ spec.zeros_in t.now }
+#[tactic(auto, using(crate::proofs::ToolLaws::zeros_count))]
+pub fn zeros(cells: &[u64]) -> usize
+    ensures { result ≡ spec.zeros_in cells.now }
 {
-    let mut n: u64 = 0;
-    let mut i: usize = 0;
-    while i < t.len() {
-        if t[i] == 0 {
-            n += 1;
-        }
-        i += 1;
-    }
-    n
-}
-
-fn wide(b: u8) -> u64
-    ensures { result ≡ b }
-{
-    b as u64
-}
-
-// One number for all bytes in their order.
-pub fn fold_bytes(k: &[u8]) -> u64
-    ensures { result ≡ spec.folded 0 k.now }
-{
-    let mut f: u64 = 0;
-    let mut i: usize = 0;
-    while i < k.len() {
-        f = fold_in(f, wide(k[i]));
-        i += 1;
-    }
-    f
+    cells.iter().filter(|x| **x == 0).count()
 }
 
 // ---- what is given
 
+// Three hash keys of 16 bytes: byte i of key k is 37 (k + 1) + 5 + 11 i, modulo 256.
+pub const HASH_KEYS: [u8; 48] = [
+    0x2a, 0x35, 0x40, 0x4b, 0x56, 0x61, 0x6c, 0x77, 0x82, 0x8d, 0x98, 0xa3, 0xae, 0xb9, 0xc4, 0xcf,
+    0x4f, 0x5a, 0x65, 0x70, 0x7b, 0x86, 0x91, 0x9c, 0xa7, 0xb2, 0xbd, 0xc8, 0xd3, 0xde, 0xe9, 0xf4,
+    0x74, 0x7f, 0x8a, 0x95, 0xa0, 0xab, 0xb6, 0xc1, 0xcc, 0xd7, 0xe2, 0xed, 0xf8, 0x03, 0x0e, 0x19,
+];
+
+// A word of its halves, the high half first.
+pub fn word(hi: u64, lo: u64) -> Word
+    ensures { result ≡ record { lo = lo; hi = hi } }
+{
+    Word { lo, hi }
+}
+
 // The number behind x in a fixed sequence.
+#[tactic(auto, unfolding(crate::specs::Tools::behind))]
 fn behind(x: u64) -> u64
     ensures { result ≡ spec.behind x }
 {
@@ -140,91 +140,43 @@ pub fn fill(words: &mut [u64], seed: u64)
     ensures { words.new ≡ tab (spec.drawn seed) (length words.old) }
 {
     let mut x = behind(behind(seed));
-    let mut i: usize = 0;
-    while i < words.len() {
+    for word in words {
         x = behind(x);
-        words[i] = x;
-        i += 1;
+        *word = x;
     }
-}
-
-fn byte(x: u64) -> u8
-    ensures { result ≡ x % 256 }
-{
-    (x % 256) as u8
 }
 
 // Three hash keys: the low bytes of such a sequence.
 pub fn keys(seed: u64) -> [u8; 48]
     ensures { result ≡ tab (λ i. spec.drawn seed i % 256) 48 }
 {
-    let mut k = [0u8; 48];
-    let mut x = behind(behind(seed));
-    let mut i: usize = 0;
-    while i < 48 {
-        x = behind(x);
-        k[i] = byte(x);
-        i += 1;
-    }
-    k
+    let mut words = [0; 48];
+    fill(&mut words, seed);
+    words.map(|x| (x % 256) as u8)
 }
 
 // ---- parts
 
-// The n bytes from `at` on; none where they are not all there.
-pub fn part(bytes: &[u8], at: usize, n: usize) -> &[u8]
-    ensures { result.now ≡ spec.part bytes.now at n }
-{
-    if bytes.len() < n {
-        return &bytes[..0];
-    }
-    if bytes.len() - n < at {
-        return &bytes[..0];
-    }
-    let end = at + n;
-    &bytes[at..end]
-}
-
 // The n elements from `at` on; none where they are not all there.
-pub fn elements(cells: &[u64], at: usize, n: usize) -> &[u64]
-    ensures { result.now ≡ spec.part cells.now at n }
+#[tactic(auto, unfolding(crate::specs::Tools::part))]
+pub fn part<T>(items: &[T], at: usize, n: usize) -> &[T]
+    ensures { result.now ≡ spec.part items.now at n }
 {
-    if cells.len() < n {
-        return &cells[..0];
-    }
-    if cells.len() - n < at {
-        return &cells[..0];
-    }
-    let end = at + n;
-    &cells[at..end]
+    let rest = items.get(at..).unwrap_or(&[]);
+    rest.get(..n).unwrap_or(&[])
 }
 
 // The first n elements, to be read; all where there are fewer.
-pub fn first(cells: &[u64], n: usize) -> &[u64]
-    ensures { result.now ≡ take n cells.now }
+pub fn first<T>(items: &[T], n: usize) -> &[T]
+    ensures { result.now ≡ take n items.now }
 {
-    if cells.len() < n {
-        return cells;
-    }
-    &cells[..n]
+    &items[..n.min(items.len())]
 }
 
 // The first n elements, to be written; all where there are fewer.
-pub fn lent_cells(cells: &mut [u64], n: usize) -> &mut [u64]
-    ensures { result.now ≡ take n cells.old }
+pub fn lent<T>(items: &mut [T], n: usize) -> &mut [T]
+    ensures { result.now ≡ take n items.old }
 {
-    if cells.len() < n {
-        return cells;
-    }
-    &mut cells[..n]
-}
-
-// The first n bytes, to be written; all where there are fewer.
-pub fn lent_bytes(bytes: &mut [u8], n: usize) -> &mut [u8]
-    ensures { result.now ≡ take n bytes.old }
-{
-    if bytes.len() < n {
-        return bytes;
-    }
-    &mut bytes[..n]
+    let n = n.min(items.len());
+    &mut items[..n]
 }

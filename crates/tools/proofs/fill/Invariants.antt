@@ -1,17 +1,10 @@
--- `tools::fill` meets its contract. The invariant: the elements below i are drawn, and x stands before the next. The measure is
--- what is left. Assumes nothing.
-use mathlib.Core.Path.{◌≡◌}
-use Prim.Native.Nat.{◌+◌, ◌-◌, ◌≤◌}
-use lib.ListN.{length}
+-- The elements so far are drawn, and x stands before the next. Assumes nothing.
+use Rattle.std.proofs.Common.{◌≡◌, ◌+◌}
 use Rattle.words.specs.Bytes.{put}
 use Rattle.words.specs.Cells.{tab}
 use Rattle.tools.specs.Tools.{later, drawn}
 use Rattle.tools.proofs.fill.Given as goal
 
-abbrev pub invariant-loop-i : goal.invariant-loop-i
-invariant-loop-i l =
-    (l.i ≤ length l.initial.words) × (length l.words ≡ length l.initial.words) × (l.words ≡ put l.initial.words 0 (tab (drawn l.seed) l.i))
-    × (l.x ≡ later (l.i + 2) l.seed)
-
-abbrev pub decreases-loop-i : goal.decreases-loop-i
-decreases-loop-i l = length l.initial.words - l.i
+abbrev pub invariant-loop-word : goal.invariant-loop-word
+invariant-loop-word l =
+    (l.word-items ≡ put l.initial.word-items 0 (tab (drawn l.seed) l.word-index)) × (l.x ≡ later (l.word-index + 2) l.seed)

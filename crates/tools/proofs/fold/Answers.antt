@@ -1,18 +1,13 @@
--- `tools::fold` meets its contract. The invariant: what is left, turned into the fold so far, gives the whole fold. The measure
--- is what is left. Assumes nothing.
-use mathlib.Core.Path.{refl, sym, ◌∙◌}
-use borrow.Author.Rules.{rules}
+-- What is left, turned into the fold so far, gives the whole fold. Assumes nothing.
+use Rattle.std.proofs.Common.{sym, ◌∙◌}
 use Rattle.tools.proofs.ToolLaws.{fold_next, fold_end}
 use Rattle.tools.proofs.fold.Goals as goal
 
-pub loop-i-preserved : goal.loop-i-preserved
-loop-i-preserved c =
-    let inside = c.loop-i-test.true in
-    let l = c.loop-i in
-    (search rules, rw c.fold_in-f.ensures (fold_next _ _ _ inside ∙ l.invariant.1))
+pub loop-x-preserved : goal.loop-x-preserved
+loop-x-preserved g c =
+    let l = c.loop-x in
+    let here = fold_next g.T.Number.value l.f c.args.items.now l.x-index c.x-item.result c.loop-x-test.true in
+    cc (here, l.invariant)
 
 pub returns : goal.returns
-returns c = sym (fold_end _ _ _ c.loop-i-test.false) ∙ c.loop-i.invariant.1
-
-pub loop-i-init : goal.loop-i-init
-loop-i-init c = (search rules, refl)
+returns g c = sym (fold_end g.T.Number.value _ _ _ c.loop-x-test.false) ∙ c.loop-x.invariant

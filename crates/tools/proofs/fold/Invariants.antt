@@ -1,13 +1,8 @@
--- `tools::fold` meets its contract. The invariant: what is left, turned into the fold so far, gives the whole fold. The measure
--- is what is left. Assumes nothing.
-use mathlib.Core.Path.{◌≡◌}
-use Prim.Native.Nat.{◌-◌, ◌≤◌}
-use lib.ListN.{length, drop}
+-- What is left, turned into the fold so far, gives the whole fold. Assumes nothing.
+use Rattle.std.proofs.Common.{◌≡◌, map}
+use lib.ListN.{drop}
 use Rattle.tools.specs.Tools.{folded}
 use Rattle.tools.proofs.fold.Given as goal
 
-abbrev pub invariant-loop-i : goal.invariant-loop-i
-invariant-loop-i l = (l.i ≤ length l.t) × (folded l.f (drop l.i l.t) ≡ folded 0 l.t)
-
-abbrev pub decreases-loop-i : goal.decreases-loop-i
-decreases-loop-i l = length l.t - l.i
+abbrev pub invariant-loop-x : goal.invariant-loop-x
+invariant-loop-x g l = folded l.f (map g.T.Number.value (drop l.x-index l.items)) ≡ folded 0 (map g.T.Number.value l.items)
