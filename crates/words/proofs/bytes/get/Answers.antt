@@ -1,7 +1,10 @@
 -- `words::bytes::get` meets its contract: the bytes that are there, and zeros behind them. Assumes nothing.
-use Rattle.std.proofs.Common.{◌∙◌}
-use Rattle.words.proofs.ByteLaws.{read_padded}
+use Rattle.std.proofs.Common.{◌∙◌, sym}
+use Rattle.words.proofs.ByteLaws.{field-none, read_padded}
 use Rattle.words.proofs.bytes.get.Goals as goal
+
+pub returns-then-buf-at : goal.returns-then-buf-at
+returns-then-buf-at c = sym (field-none c.args.n c.args.buf.now c.args.at c.if-buf-at.true)
 
 pub returns : goal.returns
 returns c =
