@@ -1,10 +1,10 @@
 -- `single::calls::add_to` meets its contract: a refusal leaves both slices; past it the shares are added to the table. Assumes
 -- nothing.
-use Rattle.std.proofs.Common.{◌≡◌, rules, arith, Err}
+use Rattle.std.proofs.Common.{◌≡◌, sym, rules, arith, Err}
 use Rattle.cipher.specs.TreeHash.{tree_hash}
 use Rattle.single.specs.Rules.{share}
-use Rattle.single.specs.Keys.{record_of}
-use Rattle.single.proofs.CallLaws.{image-size, image-share, add_no_image, add_no_table, add_no_scratch, add_clear}
+use Rattle.single.specs.Record.{record_in}
+use Rattle.single.proofs.CallLaws.{rest-size, rest-share, add_no_image, add_no_table, add_no_scratch, add_clear}
 use Rattle.single.proofs.SpreadLaws.{add_from}
 use Rattle.single.proofs.calls.add_to.Goals as goal
 
@@ -18,20 +18,20 @@ pub returns-then-table-size : goal.returns-then-table-size
 returns-then-table-size c =
     let a = c.args in
     let q = c.in_ok-image.ensures in
-    add_no_table tree_hash a.key.now a.scratch.now a.table.now q.0 (image-size tree_hash a.key.now q.1 q.2) c.if-table-size.true
+    add_no_table tree_hash a.key.now a.scratch.now a.table.now q.0 (rest-size tree_hash a.key.now q.1 q.2 c.size-size.ensures) c.if-table-size.true
 
 pub returns-then-scratch-size : goal.returns-then-scratch-size
 returns-then-scratch-size c =
     let a = c.args in
     let q = c.in_ok-image.ensures in
-    add_no_scratch tree_hash a.key.now a.scratch.now a.table.now q.0 (image-size tree_hash a.key.now q.1 q.2) (omega arith) (omega arith)
+    add_no_scratch tree_hash a.key.now a.scratch.now a.table.now q.0 (rest-size tree_hash a.key.now q.1 q.2 c.size-size.ensures) (omega arith) (omega arith)
 
 pub returns : goal.returns
 returns c =
     let a = c.args in
     let i = c.in_ok-image.image in
     let q = c.in_ok-image.ensures in
-    let size = image-size tree_hash a.key.now q.1 q.2 in
+    let size = rest-size tree_hash a.key.now q.1 q.2 c.size-size.ensures in
     let made = c.lay_shares.ensures in
-    add_from tree_hash a.key.now a.scratch.now (share tree_hash 64 i.party (record_of i.held.key)) (image-share tree_hash a.key.now q.1 q.2) size made.scratch a.table.now
+    add_from tree_hash a.key.now a.scratch.now (share tree_hash 64 i.party (record_in i.record.now)) (rest-share tree_hash a.key.now q.1 q.2) size (rw (sym c.size-size.ensures) at made.scratch) a.table.now
     (add_clear tree_hash a.key.now a.scratch.now a.table.now q.0 size (omega arith) (omega arith)) made.cells
