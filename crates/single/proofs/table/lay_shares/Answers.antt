@@ -13,7 +13,7 @@ use Rattle.single.proofs.table.lay_shares.Goals as goal
 pub unwrap-requires : goal.unwrap-requires
 unwrap-requires g c =
     let a = c.args in
-    is_ok_told _ (spread_found tree_hash a.image.now.party a.image.now.record.now a.scratch.now a.image.now.ok (omega (arith, c.requires.0, c.requires.1))
+    is_ok_told _ (spread_found tree_hash _ a.image.now.record.now a.scratch.now a.image.now.ok (omega (arith, c.requires.0, c.requires.1))
     (rw c.new.ensures at c.spread_record.ensures)).0
 
 pub returns : goal.returns
