@@ -4,7 +4,7 @@
 
 use bucket_hash::Hashes;
 use std::io;
-use tools::HASH_KEYS;
+use tools::{HASH_KEYS, Lossy};
 use words::refusals::number_in;
 
 // Buckets and items: B at its limits and outside, the items 0, 1, a few and the largest.
@@ -49,6 +49,7 @@ fn lows(rt: &impl Print) -> io::Result<()> {
 }
 
 fn main(rt: HostRuntime) -> io::Result<()> {
+    let rt = Lossy(&rt);
     buckets(&rt)?;
     lows(&rt)
 }

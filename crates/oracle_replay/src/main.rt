@@ -4,13 +4,17 @@
 // The format is in oracle/README.md, "The replay lists".
 #![tactic(auto)]
 
+ghost use Rattle.std.specs.Prelude.{◌≤◌, length, IfOk};
+
 use keys::{Multi, Single};
 use kinds::{Entry, Kind, Tallies};
 use make::Pair;
 use read::Unmade;
 use replay::{Account, Malformed};
-use std::io::Write;
-use std::{fs, io};
+use std::fs::File;
+use std::io;
+use std::io::{Read, Write};
+use tools::Lossy;
 
 mod given;
 mod hashes;
@@ -134,9 +138,27 @@ fn replay_list(rt: &impl Print, list: &[u8]) -> io::Result<()> {
     Ok(())
 }
 
+// Reads the file until it ends or `space` is full; the answer is how many bytes now stand at the start of `space`.
+fn read_full(file: &mut File, space: &mut [u8]) -> io::Result<usize>
+    ensures { IfOk result (λ n. n ≤ length space.new) }
+{
+    let mut done = 0;
+    // Each turn but the last brings a byte or more.
+    for _ in 0..space.len() {
+        let got = file.read(&mut space[done..])?;
+        if got == 0 {
+            break;
+        }
+        done += got;
+    }
+    Ok(done)
+}
+
 fn replay_file(rt: &HostRuntime, path: &str) -> io::Result<()> {
-    let list = fs::read(rt, path)?;
-    replay_list(rt, &list[..list.len().min(LONGEST)])
+    let mut file = File::open(rt, path)?;
+    let mut space = [0; LONGEST];
+    let n = read_full(&mut file, &mut space)?;
+    replay_list(&Lossy(rt), &space[..n])
 }
 
 // A list that cannot be read does not keep the other from being replayed; the first failure is answered.

@@ -6,7 +6,7 @@
 use bucket_hash::Hashes;
 use placement::cells;
 use std::io;
-use tools::{HASH_KEYS, Spaced};
+use tools::{HASH_KEYS, Lossy, Spaced};
 use words::refusals::number_in;
 
 // One key three times: byte i is 5 + 11 i, modulo 256. All three functions agree.
@@ -127,6 +127,7 @@ fn sizes(rt: &impl Print) -> io::Result<()> {
 }
 
 fn main(rt: HostRuntime) -> io::Result<()> {
+    let rt = Lossy(&rt);
     places(&rt)?;
     sizes(&rt)
 }

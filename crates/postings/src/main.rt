@@ -8,6 +8,7 @@ mod desk;
 mod partners;
 
 use std::io;
+use tools::Lossy;
 use words::sums;
 
 // The cells of both tables and their sum beside the plain table, and how many agree.
@@ -26,6 +27,7 @@ fn compare(rt: &impl Print, t0: &[u64; 40], t1: &[u64; 40], plain: &[u64; 40]) -
 }
 
 fn main(rt: HostRuntime) -> io::Result<()> {
+    let rt = Lossy(&rt);
     let mut t0 = [0; 40];
     let mut t1 = [6; 40];
     let mut plain = [6; 40];

@@ -9,6 +9,7 @@ mod pairs;
 
 use single::calls;
 use std::{fmt, io};
+use tools::Lossy;
 use words::refusals::{Refusal, number_in};
 
 // The random words of every pair: two words, low half first.
@@ -36,6 +37,7 @@ impl fmt::Display for Told {
 }
 
 fn main(rt: HostRuntime) -> io::Result<()> {
+    let rt = Lossy(&rt);
     pairs::all(&rt)?;
     limits::makers(&rt)?;
     limits::readers(&rt)

@@ -2,14 +2,38 @@
 // and hash keys, and parts of a slice. Every function is total. What each answers is in specs/Tools.antt.
 #![tactic(auto)]
 
-ghost use Rattle.std.specs.Prelude.{◌≡◌, ℕ, Some, ◌%◌, length, take, map};
+ghost use Rattle.std.specs.Prelude.{◌≡◌, ℕ, Some, IsOk, ◌%◌, length, take, map};
 ghost use Rattle.words.specs.Cells.{tab};
 ghost use Rattle.tools.specs.Tools as spec;
 
-use std::fmt;
+use std::{fmt, io};
 use words::Word;
 
 // ---- printing
+
+// Output of a program that goes on where it cannot write: what is not taken is left out.
+#[derive(Clone, Copy)]
+pub struct Lossy<P: Print>(pub P);
+
+impl<P: Print> Print for Lossy<P> {
+    fn print<D: fmt::Display + Drop>(&self, value: D) -> io::Result<()>
+        ensures { IsOk result }
+    {
+        self.0.print(value).or(Ok(()))
+    }
+
+    fn println<D: fmt::Display + Drop>(&self, value: D) -> io::Result<()>
+        ensures { IsOk result }
+    {
+        self.0.println(value).or(Ok(()))
+    }
+
+    fn write_all(&self, bytes: &[u8]) -> io::Result<()>
+        ensures { IsOk result }
+    {
+        self.0.write_all(bytes).or(Ok(()))
+    }
+}
 
 // A word, 16 digits a half, the high half first.
 #[derive(Clone, Copy)]

@@ -3,7 +3,7 @@
 #![tactic(auto)]
 
 use std::io;
-use tools::{Halves, word};
+use tools::{Halves, Lossy, word};
 use words::refusals::number_in;
 use words::{bytes, cells, sums};
 
@@ -136,6 +136,7 @@ fn zeros(rt: &impl Print) -> io::Result<()> {
 }
 
 fn main(rt: HostRuntime) -> io::Result<()> {
+    let rt = Lossy(&rt);
     let mut b = [0x11; 20];
     heights(&rt)?;
     shifts(&rt)?;
