@@ -169,6 +169,13 @@ pub(crate) struct Mail {
 }
 
 impl Mail {
+    pub(crate) fn empty() -> Mail {
+        Mail {
+            spans: [Span { at: 0, length: 0 }; 9],
+            bytes: [0; 8192],
+        }
+    }
+
     // The image of posting k, or so many of its bytes; none behind the last posting.
     pub(crate) fn image(&self, k: usize, cut: Option<usize>) -> &[u8] {
         match self.spans.get(k) {
@@ -195,15 +202,9 @@ impl Mail {
     }
 }
 
-// Makes every posting, spoils one, and prints what making answered and a fold of either mail. Answers the mails of party 0 and
-// of party 1.
-pub(crate) fn post_all(rt: &impl Print) -> io::Result<(Mail, Mail)> {
-    let empty = Mail {
-        spans: [Span { at: 0, length: 0 }; 9],
-        bytes: [0; 8192],
-    };
-    let mut mail0 = empty;
-    let mut mail1 = empty;
+// Makes every posting into the mails of party 0 and of party 1, which are empty, spoils one, and prints what making answered and
+// a fold of either mail.
+pub(crate) fn post_all(rt: &impl Print, mail0: &mut Mail, mail1: &mut Mail) -> io::Result<()> {
     let mut at: usize = 0;
     for (k, posting) in postings().iter().enumerate() {
         let answer = posting.make(mail0.room(at), mail1.room(at));
@@ -223,8 +224,7 @@ pub(crate) fn post_all(rt: &impl Print) -> io::Result<(Mail, Mail)> {
         "mail {:016x} {:016x}",
         fold(&mail0.bytes),
         fold(&mail1.bytes)
-    )?;
-    Ok((mail0, mail1))
+    )
 }
 
 // ---- the plain table

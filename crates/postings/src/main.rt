@@ -7,6 +7,7 @@
 mod desk;
 mod partners;
 
+use desk::Mail;
 use std::io;
 use tools::Lossy;
 use words::sums;
@@ -31,7 +32,9 @@ fn main(rt: HostRuntime) -> io::Result<()> {
     let mut t0 = [0; 40];
     let mut t1 = [6; 40];
     let mut plain = [6; 40];
-    let (mail0, mail1) = desk::post_all(&rt)?;
+    let mut mail0 = Mail::empty();
+    let mut mail1 = Mail::empty();
+    desk::post_all(&rt, &mut mail0, &mut mail1)?;
     partners::partner(&rt, 0, &partners::first(), &mail0, &mut t0)?;
     partners::partner(&rt, 1, &partners::second(), &mail1, &mut t1)?;
     desk::in_clear(&mut plain);
