@@ -146,10 +146,10 @@ fn read_full(file: &mut File, space: &mut [u8]) -> io::Result<usize>
     // Each turn but the last brings a byte or more.
     for _ in 0..space.len() {
         let got = file.read(&mut space[done..])?;
-        if got == 0 {
+        done += got;
+        if got == 0 || done == space.len() {
             break;
         }
-        done += got;
     }
     Ok(done)
 }
