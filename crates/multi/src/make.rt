@@ -126,6 +126,9 @@ impl<'a> Laid<'a> {
         let r0 = word_no(self.posting.words, used);
         let r1 = word_no(self.posting.words, used + 1);
         // Over no entries there are no keys.
+        if size == 0 {
+            return;
+        }
         let Ok(pair) = make_keys(h, size, alpha, beta, r0, r1) else {
             return;
         };

@@ -20,6 +20,17 @@ few l c size = omega (arith, size, l.small c)
 inside : (l : Laid) (c : ℕ) {size alpha : ℕ} → size ≡ get_or l.sizes.now c 0 → alpha ≡ get_or l.spots.now c 0 → alpha ≤ size - 1
 inside l c size spot = omega (arith, size, spot, l.inside c)
 
+pub returns-then-size-eq0 : goal.returns-then-size-eq0
+returns-then-size-eq0 c =
+    let a = c.args in
+    let l = a.self.now in
+    let is = λ (p : Bool). from_is (hash_by a.h) l.holders.now l.sizes.now l.spots.now l.posting.values.now l.posting.words.now p
+    a.c a.used c.element-size.ensures c.element-alpha.ensures refl c.value-beta.ensures c.word_no-r0.ensures c.word_no-r1.ensures in
+    record {
+      first = sym (ap (put a.key0.now a.at) (sym (is false) ∙ by_none _ _ _ _ _ _ _ c.if-size-eq0.true) ∙ put_nil _ _);
+      second = sym (ap (put a.key1.now a.at) (sym (is true) ∙ by_none _ _ _ _ _ _ _ c.if-size-eq0.true) ∙ put_nil _ _);
+    }
+
 pub returns-in_default : goal.returns-in_default
 returns-in_default c =
     let a = c.args in
