@@ -129,6 +129,7 @@ impl<'a> Laid<'a> {
         if size == 0 {
             return;
         }
+        // Over any other number there are.
         let Ok(pair) = make_keys(h, size, alpha, beta, r0, r1) else {
             return;
         };
