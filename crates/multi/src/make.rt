@@ -129,7 +129,7 @@ impl<'a> Laid<'a> {
         if size == 0 {
             return;
         }
-        // Over any other number there are.
+        // Over any other number there are, so this always has them.
         let Ok(pair) = make_keys(h, size, alpha, beta, r0, r1) else {
             return;
         };
